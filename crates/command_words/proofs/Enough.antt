@@ -5,8 +5,8 @@ use Rattle.std.specs.Prelude.{IfSome, is_some, unwrap_or, option_map}
 use Rattle.std.specs.List.{list_all}
 use Rattle.std.proofs.lemmas.Bool.Decides.{nat_tests}
 use Rattle.command_words.specs.declared.choices.Choices.{Choices}
-use Rattle.command_words.specs.declared.choices.Name.{Name}
-use Rattle.command_words.specs.declared.choices.Name.TheVariants.{Check, Stable, Run, Replay, Format, Gen, Trace, Mail}
+use Rattle.command_words.specs.declared.choices.CommandName.{CommandName}
+use Rattle.command_words.specs.declared.choices.CommandName.TheVariants.{Check, Stable, Run, Replay, Format, Gen, Trace, Mail}
 use Rattle.command_words.specs.declared.commands.Command.TheVariants as command
 use Rattle.command_words.specs.declared.commands.Quiet.TheVariants as quiet
 use Rattle.command_words.specs.declared.commands.Work.TheVariants as work
@@ -27,7 +27,7 @@ chosen_once true x d h = absurd cc
 chosen_once false x d h = cc
 
 -- no command takes fewer
-some_workers : (name : Name) (n : ℕ) → allows name (set.Option Workers n) ≡ true → 1 ≤ n
+some_workers : (name : CommandName) (n : ℕ) → allows name (set.Option Workers n) ≡ true → 1 ≤ n
 some_workers Run n e = grind (arith, nat_tests)
 some_workers Gen n e = grind (arith, nat_tests)
 some_workers Check n e = absurd (true≢false (sym e))
@@ -37,7 +37,7 @@ some_workers Format n e = absurd (true≢false (sym e))
 some_workers Trace n e = absurd (true≢false (sym e))
 some_workers Mail n e = absurd (true≢false (sym e))
 
-some_devices : (name : Name) (n : ℕ) → allows name (set.Option Devices n) ≡ true → 3 ≤ n
+some_devices : (name : CommandName) (n : ℕ) → allows name (set.Option Devices n) ≡ true → 3 ≤ n
 some_devices Gen n e = grind (arith, nat_tests)
 some_devices Run n e = absurd (true≢false (sym e))
 some_devices Check n e = absurd (true≢false (sym e))
@@ -47,7 +47,7 @@ some_devices Format n e = absurd (true≢false (sym e))
 some_devices Trace n e = absurd (true≢false (sym e))
 some_devices Mail n e = absurd (true≢false (sym e))
 
-set_enough : (name : Name) (s : Setting) (c d : Choices) → allows name s ≡ true → Enough c
+set_enough : (name : CommandName) (s : Setting) (c d : Choices) → allows name s ≡ true → Enough c
     → with_setting s c ≡ Some d → Enough d
 set_enough name set.Facts c d allowed enough h =
     subst Enough (chosen_once c.facts (record c { facts = true }) d h) enough
@@ -74,7 +74,7 @@ set_enough name (set.Option Number n) c d allowed enough h =
 set_enough name (set.Alone n) c d allowed enough h =
     subst Enough (chosen_once (is_some c.alone) (record c { alone = Some n }) d h) enough
 
-all_enough : (name : Name) (ss : List Setting) (c : Choices) → list_all (allows name) ss ≡ true → Enough c
+all_enough : (name : CommandName) (ss : List Setting) (c : Choices) → list_all (allows name) ss ≡ true → Enough c
     → IfSome (all_set c ss) Enough
 all_enough name [] c allowed enough = enough
 all_enough name (s ∷ ss) c allowed enough =
@@ -94,7 +94,7 @@ least : (m other : ℕ) (o : Option ℕ) → m ≤ other → IfSome o (λ n. m �
 least m other None h k = h
 least m other (Some n) h k = k
 
-chosen_enough : (n : Name) (c : Choices) → Enough c → IfSome (command_with n c) IsCommand
+chosen_enough : (n : CommandName) (c : Choices) → Enough c → IfSome (command_with n c) IsCommand
 chosen_enough Check c enough = checked ((c.from_table || c.changes) && not c.settle) c.changes
   where
     checked : (b d : Bool) → IfSome (if b then None else (if d
@@ -120,7 +120,7 @@ chosen_enough Gen c enough = by_number c.alone
       work = least 3 64 c.devices (omega (arith)) enough.1;
     }
 
-from_enough : (n : Name) (ss : List Setting) → IfSome (command_from n ss) IsCommand
+from_enough : (n : CommandName) (ss : List Setting) → IfSome (command_from n ss) IsCommand
 from_enough n ss = by_allowed (list_all (allows n) ss) refl (all_set no_choices ss) refl
   where
     by_allowed : (b : Bool) → list_all (allows n) ss ≡ b → (o : Option Choices) → all_set no_choices ss ≡ o
@@ -130,7 +130,7 @@ from_enough n ss = by_allowed (list_all (allows n) ss) refl (all_set no_choices 
     by_allowed true all (Some c) is =
         chosen_enough n c (subst (λ p. IfSome p Enough) is (all_enough n ss no_choices all (tt, tt)))
 
-asked_enough : (n : Option Name) (ss : Option (List Setting)) → IfSome (asked n ss) IsCommand
+asked_enough : (n : Option CommandName) (ss : Option (List Setting)) → IfSome (asked n ss) IsCommand
 asked_enough None ss = tt
 asked_enough (Some n) None = tt
 asked_enough (Some n) (Some ss) = from_enough n ss

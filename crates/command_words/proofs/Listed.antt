@@ -12,7 +12,7 @@ use Rattle.clap.specs.Simple.{App, Shape, built, matches_of}
 use Rattle.clap.specs.Takes.{settle_passes, takes}
 use Rattle.fc_values.specs.Numbers.{number_of}
 use Rattle.command_words.specs.declared.choices.Choices.{Choices}
-use Rattle.command_words.specs.declared.choices.Name.{Name}
+use Rattle.command_words.specs.declared.choices.CommandName.{CommandName}
 use Rattle.command_words.specs.declared.commands.Command.{Command}
 use Rattle.command_words.specs.declared.settings.Setting.{Setting}
 use Rattle.command_words.specs.declared.settings.Numbered.TheVariants.{Workers, Devices, Number}
@@ -304,7 +304,7 @@ module _ (s : Shape) where
     pub first : first_by s.rules m ≡ Some (rule_by m)
     pub by_id : arg_by_id s.rules (id_by m) ≡ Some (rule_by m)
 
-  module _ (name : Name) (pieces : (m : Piece) → allowed name m ≡ true → Takes m) where
+  module _ (name : CommandName) (pieces : (m : Piece) → allowed name m ≡ true → Takes m) where
     all_read : (ws : List Written) (w : Walk) (c d : Choices) → list_all (allows name) (written_settings ws) ≡ true
         → all_set c (written_settings ws) ≡ Some d → State w c
         → State (words_walked s.rules w (written_words ws)) d × (words_pass s w (written_words ws) ≡ true)
@@ -369,20 +369,20 @@ number_read id (Some n) row default f e =
     ap (λ a. option_and_then number_of (first_text (option_or a default))) f.is ∙ f.writes
 
 -- the choices that words ask for are what `clap` reads
-pub record Reads (name : Name) (app : App) (words : List (List ℕ)) (o : Option Command) : Type 0 where
+pub record Reads (name : CommandName) (app : App) (words : List (List ℕ)) (o : Option Command) : Type 0 where
   pub choices : Choices
   pub is : o ≡ command_with name choices
   pub takes : takes app words ≡ true
   pub read : IsRead (matches_of app words) choices
 
 -- what the settings are of which a command is made
-record AreSet (name : Name) (settings : List Setting) (c : Option Command) : Type 0 where
+record AreSet (name : CommandName) (settings : List Setting) (c : Option Command) : Type 0 where
   pub allowed : list_all (allows name) settings ≡ true
   pub choices : Choices
   pub set : all_set no_choices settings ≡ Some choices
   pub is : c ≡ command_with name choices
 
-are_set : (name : Name) (settings : List Setting) → is_some (command_from name settings) ≡ true
+are_set : (name : CommandName) (settings : List Setting) → is_some (command_from name settings) ≡ true
     → AreSet name settings (command_from name settings)
 are_set name settings e = go (list_all (allows name) settings) (all_set no_choices settings) refl refl e
   where
@@ -393,7 +393,7 @@ are_set name settings e = go (list_all (allows name) settings) (all_set no_choic
     go true None a s h = cc
     go false c a s h = cc
 
-module _ (app : App) (name : Name) (offers : Offers app name) where
+module _ (app : App) (name : CommandName) (offers : Offers app name) where
   abbrev top : Shape
   top = (built app).top
 

@@ -5,8 +5,8 @@ use Rattle.std.specs.List.{list_all}
 use Rattle.clap.specs.Simple.{App, built, is_simple}
 use Rattle.clap.specs.Takes.{default_passes, is_valid}
 use Rattle.clap.specs.Walk.{Row, Rule, arg_by_id, arg_by_index, arg_by_long}
-use Rattle.command_words.specs.declared.choices.Name.{Name}
-use Rattle.command_words.specs.declared.choices.Name.TheVariants.{Check, Stable, Run, Replay, Format, Gen, Trace, Mail}
+use Rattle.command_words.specs.declared.choices.CommandName.{CommandName}
+use Rattle.command_words.specs.declared.choices.CommandName.TheVariants.{Check, Stable, Run, Replay, Format, Gen, Trace, Mail}
 use Rattle.command_words.specs.declared.settings.Setting.TheVariants as set
 use Rattle.command_words.specs.declared.settings.Numbered.{Numbered}
 use Rattle.command_words.specs.declared.settings.Numbered.TheVariants.{Workers, Devices, Number}
@@ -76,18 +76,18 @@ abbrev three : Digits
 three = record { first = 51; rest = []; value = 3; writes = refl }
 
 -- whether a command takes a piece, with a number that is great enough
-abbrev pub allowed : Name → Piece → Bool
+abbrev pub allowed : CommandName → Piece → Bool
 allowed name piece = allows name (setting_by piece three)
 
 -- the command has what it needs for each piece that it takes
-pub record Offers (app : App) (name : Name) : Type 0 where
+pub record Offers (app : App) (name : CommandName) : Type 0 where
   pub named : IsNamed app
   pub simple : is_simple app ≡ true
   pub pieces : map (offered (built app).top.rules) all_pieces ≡ map (λ m. wanted (allowed name m) m) all_pieces
   pub defaults : list_all default_passes (built app).top.rules ≡ true
   pub valid : (rows : List Row) → is_valid (built app).top rows false ≡ true
 
-module _ (app : App) (name : Name) (is : Offers app name) where
+module _ (app : App) (name : CommandName) (is : Offers app name) where
   abbrev at : ℕ → List Entry → Entry
   at i entries = get_or entries i (None, None, None)
 
@@ -108,7 +108,7 @@ module _ (app : App) (name : Name) (is : Offers app name) where
   piece_offered alone = ap (at 10) is.pieces
 
 -- ---- numbers that are great enough
-option_allowed : (name : Name) (o : Numbered) (n : ℕ) → allows name (set.Option o n) ≡ true
+option_allowed : (name : CommandName) (o : Numbered) (n : ℕ) → allows name (set.Option o n) ≡ true
     → allows name (set.Option o 3) ≡ true
 option_allowed Run Workers n e = refl
 option_allowed Gen Workers n e = refl
@@ -135,7 +135,7 @@ option_allowed Trace Workers n e = e
 option_allowed Trace Devices n e = e
 option_allowed Trace Number n e = e
 
-alone_allowed : (name : Name) (n : ℕ) → allows name (set.Alone n) ≡ true → allows name (set.Alone 3) ≡ true
+alone_allowed : (name : CommandName) (n : ℕ) → allows name (set.Alone n) ≡ true → allows name (set.Alone 3) ≡ true
 alone_allowed Gen n e = e
 alone_allowed Run n e = e
 alone_allowed Check n e = e
@@ -145,7 +145,7 @@ alone_allowed Format n e = e
 alone_allowed Trace n e = e
 alone_allowed Mail n e = e
 
-pub piece_allowed : (name : Name) (m : Piece) (d : Digits) → allows name (setting_by m d) ≡ true → allowed name m ≡ true
+pub piece_allowed : (name : CommandName) (m : Piece) (d : Digits) → allows name (setting_by m d) ≡ true → allowed name m ≡ true
 piece_allowed name facts d e = e
 piece_allowed name settle d e = e
 piece_allowed name from_table d e = e

@@ -7,8 +7,8 @@ use Rattle.clap.specs.declared.builder.action.ArgAction.TheVariants.{Set, SetTru
 use Rattle.command_words.specs.declared.commands.Command.{Command}
 use Rattle.fc_values.specs.Numbers.{number_of}
 use Rattle.command_words.specs.declared.choices.Choices.{Choices}
-use Rattle.command_words.specs.declared.choices.Name.{Name}
-use Rattle.command_words.specs.declared.choices.Name.TheVariants.{Check, Stable, Run, Replay, Format, Gen, Trace, Mail}
+use Rattle.command_words.specs.declared.choices.CommandName.{CommandName}
+use Rattle.command_words.specs.declared.choices.CommandName.TheVariants.{Check, Stable, Run, Replay, Format, Gen, Trace, Mail}
 use Rattle.command_words.specs.Settings.{settings_of}
 use Rattle.command_words.specs.Words.{asked}
 
@@ -56,7 +56,7 @@ unfoldable pub mail_app : List ℕ → App
 mail_app name = with_rule (plain_app name) (number_rule (codes "number"))
 
 -- the options of each command
-abbrev pub options_of : Name → List ℕ → App
+abbrev pub options_of : CommandName → List ℕ → App
 options_of Check name = check_app name
 options_of Stable name = plain_app name
 options_of Run name = run_app name
@@ -67,7 +67,7 @@ options_of Trace name = plain_app name
 options_of Mail name = mail_app name
 
 -- the command of this name that the words ask for, of which the command's is the first
-abbrev pub asked_of : Name → List (List ℕ) → Option Command
+abbrev pub asked_of : CommandName → List (List ℕ) → Option Command
 asked_of name [] = None
 asked_of name (word ∷ words) = asked (Some name) (settings_of words)
 

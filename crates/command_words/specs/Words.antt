@@ -8,8 +8,8 @@ use Rattle.command_words.specs.declared.commands.Command.TheVariants as command
 use Rattle.command_words.specs.declared.commands.Quiet.TheVariants as quiet
 use Rattle.command_words.specs.declared.commands.Work.{Work}
 use Rattle.command_words.specs.declared.commands.Work.TheVariants as work
-use Rattle.command_words.specs.declared.choices.Name.{Name}
-use Rattle.command_words.specs.declared.choices.Name.TheVariants.{Check, Stable, Run, Replay, Format, Gen, Trace, Mail}
+use Rattle.command_words.specs.declared.choices.CommandName.{CommandName}
+use Rattle.command_words.specs.declared.choices.CommandName.TheVariants.{Check, Stable, Run, Replay, Format, Gen, Trace, Mail}
 use Rattle.command_words.specs.declared.choices.Choices.{Choices}
 use Rattle.command_words.specs.declared.settings.Numbered.TheVariants.{Workers, Devices, Number}
 use Rattle.command_words.specs.declared.settings.Setting.{Setting}
@@ -18,7 +18,7 @@ use Rattle.command_words.specs.Commands.{IsCommand, start_asked, start_from}
 use Rattle.command_words.specs.Settings.{settings_of}
 
 -- the command that a word names
-abbrev pub name_of : List ℕ → Option Name
+abbrev pub name_of : List ℕ → Option CommandName
 name_of word =
     if bytes_eq word (codes "check") then Some Check else
     if bytes_eq word (codes "stable") then Some Stable else
@@ -30,7 +30,7 @@ name_of word =
     if bytes_eq word (codes "mail") then Some Mail else None
 
 -- the flags, options and numbers that a command takes: workers are at least 1, and devices at least 3
-abbrev pub allows : Name → Setting → Bool
+abbrev pub allows : CommandName → Setting → Bool
 allows Check set.Facts = true
 allows Check set.Settle = true
 allows Check set.FromTable = true
@@ -94,7 +94,7 @@ abbrev pub worked_by : Option ℕ → Work → Command
 worked_by workers work = command.Threaded (record { workers = unwrap_or workers 4; work = work })
 
 -- the command with what is set, and the defaults for the rest: 4 workers and 64 devices. `gen` needs its number
-abbrev pub command_with : Name → Choices → Option Command
+abbrev pub command_with : CommandName → Choices → Option Command
 command_with Check c = check_with c.facts c.settle c.from_table c.changes
 command_with Stable c = Some (command.Quiet quiet.Stable)
 command_with Run c = Some (worked_by c.workers (work.Run (record { log = c.log; table = c.table })))
@@ -106,11 +106,11 @@ command_with Trace c = Some (command.Quiet quiet.Trace)
 command_with Mail c = Some (command.Quiet (quiet.Mail (record { number = c.number })))
 
 -- the command of a name with its settings, if it takes each of them and none stands twice
-abbrev pub command_from : Name → List Setting → Option Command
+abbrev pub command_from : CommandName → List Setting → Option Command
 command_from name settings =
     if list_all (allows name) settings then option_and_then (command_with name) (all_set no_choices settings) else None
 
-abbrev pub asked : Option Name → Option (List Setting) → Option Command
+abbrev pub asked : Option CommandName → Option (List Setting) → Option Command
 asked (Some name) (Some settings) = command_from name settings
 asked (Some name) None = None
 asked None settings = None

@@ -13,7 +13,7 @@ use crate::settings::{Numbered, Setting};
 
 /// The name of a command.
 #[derive(Clone, Copy, Debug, PartialEq, Eq)]
-pub enum Name {
+pub enum CommandName {
     Check,
     Stable,
     Run,
@@ -41,54 +41,54 @@ pub struct Choices {
 }
 
 /// The command that a word names.
-pub fn named(word: &str) -> Option<Name>
+pub fn named(word: &str) -> Option<CommandName>
     ensures { result ≡ name_of word.now }
 {
     if word == "check" {
-        return Some(Name::Check);
+        return Some(CommandName::Check);
     }
     if word == "stable" {
-        return Some(Name::Stable);
+        return Some(CommandName::Stable);
     }
     if word == "run" {
-        return Some(Name::Run);
+        return Some(CommandName::Run);
     }
     if word == "replay" {
-        return Some(Name::Replay);
+        return Some(CommandName::Replay);
     }
     if word == "format" {
-        return Some(Name::Format);
+        return Some(CommandName::Format);
     }
     if word == "gen" {
-        return Some(Name::Gen);
+        return Some(CommandName::Gen);
     }
     if word == "trace" {
-        return Some(Name::Trace);
+        return Some(CommandName::Trace);
     }
     if word == "mail" {
-        return Some(Name::Mail);
+        return Some(CommandName::Mail);
     }
     None
 }
 
 // Whether a command takes a setting.
-fn takes(name: Name, setting: Setting) -> bool
+fn takes(name: CommandName, setting: Setting) -> bool
     ensures { result ≡ allows name setting }
 {
     match (name, setting) {
-        (Name::Check, Setting::Facts) => true,
-        (Name::Check, Setting::Settle) => true,
-        (Name::Check, Setting::FromTable) => true,
-        (Name::Check, Setting::Changes) => true,
-        (Name::Run, Setting::Option(Numbered::Workers, count)) => 1 <= count,
-        (Name::Run, Setting::Log) => true,
-        (Name::Run, Setting::Table) => true,
-        (Name::Replay, Setting::Rounds) => true,
-        (Name::Replay, Setting::Table) => true,
-        (Name::Gen, Setting::Alone(_)) => true,
-        (Name::Gen, Setting::Option(Numbered::Devices, count)) => 3 <= count,
-        (Name::Gen, Setting::Option(Numbered::Workers, count)) => 1 <= count,
-        (Name::Mail, Setting::Option(Numbered::Number, _)) => true,
+        (CommandName::Check, Setting::Facts) => true,
+        (CommandName::Check, Setting::Settle) => true,
+        (CommandName::Check, Setting::FromTable) => true,
+        (CommandName::Check, Setting::Changes) => true,
+        (CommandName::Run, Setting::Option(Numbered::Workers, count)) => 1 <= count,
+        (CommandName::Run, Setting::Log) => true,
+        (CommandName::Run, Setting::Table) => true,
+        (CommandName::Replay, Setting::Rounds) => true,
+        (CommandName::Replay, Setting::Table) => true,
+        (CommandName::Gen, Setting::Alone(_)) => true,
+        (CommandName::Gen, Setting::Option(Numbered::Devices, count)) => 3 <= count,
+        (CommandName::Gen, Setting::Option(Numbered::Workers, count)) => 1 <= count,
+        (CommandName::Mail, Setting::Option(Numbered::Number, _)) => true,
         _ => false,
     }
 }
@@ -199,7 +199,7 @@ fn worked_by(workers: Option<u32>, work: Work) -> Command
 }
 
 /// The command with what is chosen, and the defaults for the rest.
-pub fn chosen(name: Name, choices: Choices) -> Option<Command>
+pub fn chosen(name: CommandName, choices: Choices) -> Option<Command>
     ensures { result ≡ command_with name choices }
 {
     let Choices {
@@ -216,32 +216,32 @@ pub fn chosen(name: Name, choices: Choices) -> Option<Command>
         alone,
     } = choices;
     match name {
-        Name::Check => check_with(facts, settle, from_table, changes),
-        Name::Stable => Some(Command::Quiet(Quiet::Stable)),
-        Name::Run => Some(worked_by(workers, Work::Run(RunOptions { log, table }))),
-        Name::Replay => Some(Command::Quiet(Quiet::Replay(ReplayOptions { rounds, table }))),
-        Name::Format => Some(Command::Quiet(Quiet::Format)),
-        Name::Gen => {
+        CommandName::Check => check_with(facts, settle, from_table, changes),
+        CommandName::Stable => Some(Command::Quiet(Quiet::Stable)),
+        CommandName::Run => Some(worked_by(workers, Work::Run(RunOptions { log, table }))),
+        CommandName::Replay => Some(Command::Quiet(Quiet::Replay(ReplayOptions { rounds, table }))),
+        CommandName::Format => Some(Command::Quiet(Quiet::Format)),
+        CommandName::Gen => {
             let options = GenOptions {
                 number: alone?,
                 devices: devices.unwrap_or(64),
             };
             Some(worked_by(workers, Work::Gen(options)))
         }
-        Name::Trace => Some(Command::Quiet(Quiet::Trace)),
-        Name::Mail => Some(Command::Quiet(Quiet::Mail(MailOptions { number }))),
+        CommandName::Trace => Some(Command::Quiet(Quiet::Trace)),
+        CommandName::Mail => Some(Command::Quiet(Quiet::Mail(MailOptions { number }))),
     }
 }
 
 // Whether a command takes each of the settings.
-fn takes_all(name: Name, settings: &[Setting]) -> bool
+fn takes_all(name: CommandName, settings: &[Setting]) -> bool
     ensures { result ≡ list_all (allows name) settings.now }
 {
     settings.iter().all(|setting| takes(name, *setting))
 }
 
 /// The command of a name with its settings, if it takes them.
-pub fn command_of_settings(name: Name, settings: &[Setting]) -> Option<Command>
+pub fn command_of_settings(name: CommandName, settings: &[Setting]) -> Option<Command>
     ensures { result ≡ command_from name settings.now }
 {
     if takes_all(name, settings) {

@@ -7,7 +7,7 @@ ghost use Rattle.command_words.specs.Options.{IsRead, alone_rule, asked_of, chec
 ghost use Rattle.command_words.specs.Options.{number_rule, options_of, plain_app, replay_app, run_app};
 ghost use Rattle.command_words.specs.Words.{command_with};
 
-use crate::choices::{Choices, Name};
+use crate::choices::{Choices, CommandName};
 use clap::error::ErrorKind;
 use clap::{Arg, ArgAction, ArgMatches, Command, Error};
 use fc_values::{Memory, number};
@@ -94,25 +94,25 @@ fn mail_options<'a>(alloc: Global, name: &'a str) -> Result<Command<'a>, AllocEr
 }
 
 // The options of a command, whose word is the name.
-fn options<'a>(alloc: Global, name: Name, word: &'a str) -> Result<Command<'a>, AllocError>
+fn options<'a>(alloc: Global, name: CommandName, word: &'a str) -> Result<Command<'a>, AllocError>
     ensures { IfOk result (λ c. app_of c ≡ options_of name word.entry.now) }
 {
     match name {
-        Name::Check => check_options(alloc, word),
-        Name::Run => run_options(alloc, word),
-        Name::Replay => replay_options(alloc, word),
-        Name::Gen => gen_options(alloc, word),
-        Name::Mail => mail_options(alloc, word),
-        Name::Stable => Ok(plain(alloc, word)),
-        Name::Format => Ok(plain(alloc, word)),
-        Name::Trace => Ok(plain(alloc, word)),
+        CommandName::Check => check_options(alloc, word),
+        CommandName::Run => run_options(alloc, word),
+        CommandName::Replay => replay_options(alloc, word),
+        CommandName::Gen => gen_options(alloc, word),
+        CommandName::Mail => mail_options(alloc, word),
+        CommandName::Stable => Ok(plain(alloc, word)),
+        CommandName::Format => Ok(plain(alloc, word)),
+        CommandName::Trace => Ok(plain(alloc, word)),
     }
 }
 
 // The words begin with the command's. They ask for a command, so the parse fails for memory alone.
 fn matches<'a>(
     alloc: Global,
-    name: Name,
+    name: CommandName,
     word: &'a str,
     words: &'a [String],
 ) -> Result<ArgMatches<'a>, Error>
@@ -152,7 +152,12 @@ fn choices_in(matches: &ArgMatches) -> Choices
 }
 
 /// The choices of words that ask for a command, as `clap` reads them. The command's word is the first.
-pub fn choices(alloc: Global, name: Name, word: &str, words: &[String]) -> Result<Choices, Memory>
+pub fn choices(
+    alloc: Global,
+    name: CommandName,
+    word: &str,
+    words: &[String],
+) -> Result<Choices, Memory>
     requires { is_some (asked_of name (map string_bytes words.now)) ≡ true }
     ensures { IfOk result (λ c. asked_of name (map string_bytes words.now) ≡ command_with name c) }
 {
