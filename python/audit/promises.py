@@ -123,5 +123,5 @@ CUTS = {
         "which programs have the walk form: what it makes of one that has it stands beside it",
     "fc_mail/specs/Drives.antt driven_log":
         "which log a number makes: that it has so many rounds is said beside it",
-    "scramble/specs/Rubbish.antt AreDrawn": "which exports a `scramble` draws: a yes is from any",
+    "scenarios/specs/Rubbish.antt AreDrawn": "which exports a `scramble` draws: a yes is from any",
 }  # fmt: skip

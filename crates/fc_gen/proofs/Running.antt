@@ -15,13 +15,13 @@ use Rattle.firing_core.specs.Cores.{Core}
 use Rattle.firing_core.specs.CoreViews.{CoreValue, core_of}
 use Rattle.firing_core.specs.Entries.{entry_of, entries_of}
 use Rattle.firing_core.specs.Starts.{started}
-use Rattle.scramble.specs.Rings.{ring}
+use Rattle.scenarios.specs.Rings.{ring}
 use Rattle.session.specs.ScriptRuns.{ScriptRun}
 use Rattle.session.specs.Sessions.{HasRun, SessionValue}
 use Rattle.stable_field.specs.Stable.{IsStableField}
 use Rattle.command_frame.specs.Answers.{AnswerValue, showing}
 use Rattle.command_frame.specs.Ledgers.{book_of, ledger_of}
-use Rattle.ring_laws.specs.Laws.{RingsStabilise}
+use Rattle.scenarios.specs.Laws.{RingsStabilise}
 use Rattle.fc_gen.specs.Code.{FirstWithin, IsRun}
 use Rattle.fc_gen.specs.Gens.{Gens, empty_on, gen_text, scenario_lines, scenario_program, scenario_start}
 use Rattle.fc_gen.specs.Summaries.{agreeing, firings_in, held_sum, is_end, summary_text}

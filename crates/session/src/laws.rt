@@ -5,7 +5,7 @@ ghost use Rattle.session.specs.Laws.{LinesCut, OneScriptRun, ScriptRunsLead, Som
 use edit_commands::readings_agree;
 use firing_core::{faultless_steps, logs_decide, runs_cut, steps_keep_good};
 use round_count::rounds_grow;
-use scramble::some_rubbish;
+use scenarios::some_rubbish;
 
 /// Lines may be cut anywhere: they do what the first do, and then what the rest do from where those lead.
 pub fn lines_cut()
