@@ -13,7 +13,7 @@ use Rattle.edit_commands.specs.LineByLine.{AllLines, StopsAt}
 use Rattle.edit_commands.specs.Scripts.{AllCommandsFit, at_start}
 use Rattle.edit_commands.specs.Scripts.{CommandValue, Script, TooManyLines, Within, IsScript, SaidByScript}
 use Rattle.edit_commands.specs.Scripts.{RefusesScript, script_of}
-use Rattle.report.specs.Logs.{log_text}
+use Rattle.log_lines.specs.LogTexts.{log_text}
 use Rattle.session.specs.ScriptRuns.{ScriptRun}
 use Rattle.session.specs.Sessions.{SessionValue, HasRun}
 use Rattle.command_frame.specs.Answers.{AnswerValue, showing}

@@ -2,7 +2,7 @@
 ghost use Rattle.std.specs.Prelude.{◌≡◌, ◌≤◌, ◌++◌, IfErr, IfOk, OnOk, length, map};
 ghost use Rattle.firing_core.specs.CoreViews.{core_of, program_of};
 ghost use Rattle.firing_core.specs.Entries.{entries_of};
-ghost use Rattle.report.specs.Logs.{log_text};
+ghost use Rattle.log_lines.specs.LogTexts.{log_text};
 ghost use Rattle.command_frame.specs.Causes.{Accepted, Refused};
 ghost use Rattle.command_frame.specs.Code.{value_of};
 ghost use Rattle.command_frame.specs.Sections.{AreWithin, WithThree};
@@ -19,7 +19,7 @@ use edit_commands::scripts_are_judged;
 use export_table::Gate;
 use fc_values::Memory;
 use firing_core::Book;
-use report::entries;
+use log_lines::entries;
 use session::{Pool, Session, run_script};
 use std::alloc::Global;
 use std::sync::{Arc, Wait};

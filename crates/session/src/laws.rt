@@ -2,7 +2,7 @@
 
 ghost use Rattle.session.specs.Laws.{LinesCut, OneScriptRun, ScriptRunsLead, SomeScriptRun};
 
-use edit_commands::readings_agree;
+use edit_commands::entries_agree;
 use firing_core::{faultless_steps, logs_decide, runs_cut, steps_keep_good};
 use round_count::rounds_grow;
 use scenarios::some_rubbish;
@@ -36,6 +36,6 @@ pub fn one_script_run()
     ensures { OneScriptRun }
 {
     logs_decide();
-    readings_agree();
+    entries_agree();
     steps_keep_good();
 }
