@@ -124,8 +124,8 @@ fn ran<W: Threads + Wait + Sync, G: Gate + Sync>(
 {
     let program = Arc::new(alloc, program)?;
     let core = Core::new(alloc, &program, net, Vec::new(alloc), Vec::new(alloc))?;
-    let lines = lines_of(number, rounds);
-    let session = run_script(alloc, program, core, &lines, pool)?;
+    let lines = Vec::from_array(alloc, lines_of(number, rounds))?;
+    let session = run_script(alloc, program, core, lines, pool)?;
     Ok(session)
 }
 
@@ -138,12 +138,12 @@ fn summed_up(
     field: &[(u32, Local)],
     session: Session,
 ) -> Result<Answer, Memory>
-    requires { FirstWithin (length session.book.log) session.parts }
+    requires { FirstWithin (length session.book.log) session.parts.items }
     ensures { IfOk result (λ a. value_of a ≡ showing (gen_text number devices rounds (map entry_of field.now)
-        (entries_of session.book.log) session.parts (core_of session.book.core))
-        (ledger_of session.book) session.parts) }
+        (entries_of session.book.log) session.parts.items (core_of session.book.core))
+        (ledger_of session.book) session.parts.items) }
 {
-    let (book, parts, _) = session.finish();
+    let Session { book, parts, .. } = session;
     let counts = Counts {
         number,
         devices,

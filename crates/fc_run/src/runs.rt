@@ -60,7 +60,11 @@ fn write_table(
 fn ended(alloc: Global, options: RunOptions, session: Session) -> Result<Answer, Memory>
     ensures { IfOk result (λ a. value_of a ≡ ended_of options session) }
 {
-    let (book, parts, mut text) = session.finish();
+    let Session {
+        book,
+        parts,
+        mut text,
+    } = session;
     write_log(alloc, options, &mut text, &book)?;
     write_table(alloc, options, &mut text, &book)?;
     // Its clause: the core is of the book's program.
@@ -89,7 +93,7 @@ fn of_texts<W: Threads + Wait + Sync, G: Gate + Sync>(
     let core = start(alloc, &shared, scene)?;
     let lines = read_lines(alloc, &shared, &core, script)?;
     scripts_are_judged();
-    let session = run_script(alloc, shared, core, &lines, pool)?;
+    let session = run_script(alloc, shared, core, lines, pool)?;
     Ok(ended(alloc, options, session)?)
 }
 
