@@ -133,8 +133,8 @@ CUTS = {
         "which programs have the walk form: what it makes of one that has it stands beside it",
     "fc_mail/specs/Drives.antt driven_log":
         "which log a number makes: that it has so many rounds is said beside it",
-    "scramble/specs/Rubbish.antt AreDrawn": "which exports a `scramble` draws: a yes is from any",
-    "scramble/specs/Words.antt stream_of": "the same",
+    "scenarios/specs/Rubbish.antt AreDrawn": "which exports a `scramble` draws: a yes is from any",
+    "scenarios/specs/Words.antt stream_of": "the same",
     "command_frame/specs/Causes.antt Cause": "why texts are refused: a promise is of those that are accepted",
     "command_frame/specs/Ledgers.antt ledger_of":
         "what the book of the outcome stands for, which the program drops: the answer's own stands in the promise",

@@ -1,5 +1,5 @@
--- Readings of one log agree.
-use Rattle.std.proofs.Common.{ℕ, suc, ◌≡◌, Bool, true, false, ◌||◌, List, [], ◌∷◌, ◌++◌, map, length, refl, sym, ap, subst, ◌∙◌, Some, None, Option}
+-- Crates above cite this module: entries that are the same lead to the same, and edits that one line says are the same.
+use Rattle.std.proofs.Common.{ℕ, suc, ◌≡◌, Bool, true, false, ◌||◌, List, [], ◌∷◌, ◌++◌, length, refl, sym, ap, subst, ◌∙◌, Some, None, Option}
 use Rattle.std.specs.Prelude.{if◌then◌else◌}
 use Rattle.fc_values.specs.Trees.{TreeExport}
 use Rattle.fc_values.specs.Values.{LocalValue}
@@ -12,13 +12,10 @@ use Rattle.firing_core.specs.Entries.{EditValue, LinkEdit, UnlinkEdit, SetEdit, 
 use Rattle.firing_core.specs.Cores.{Core, put, edit_fault, edited, Edits, Step, Run}
 use Rattle.firing_core.specs.Replays.{fault_of, net_fault_of, step_of, unless, step, and_replay, replay, FailsAt}
 use Rattle.firing_core.specs.Rounds.{is_edit, has_edit, after_edit}
-use Rattle.edit_commands.specs.declared.types.Fault.{Fault}
 use Rattle.edit_commands.specs.EditLines.{EditLine, LinkLine, UnlinkLine, SetLine, PokeLine, JoinLine, LeaveLine}
-use Rattle.edit_commands.specs.LineByLine.{Lines, AllLines, StopsAt, AreSaid, SaidBy}
 use Rattle.value_trees.specs.KeptExports.{Keeps}
 use Rattle.edit_commands.specs.Judging.{PokesWith, IsEdit}
-use Rattle.edit_commands.specs.Logs.{LogLine, BeginLine, EndLine, IdleLine, OfEdit, log_of, IsEntry}
-use Rattle.edit_commands.specs.Agreement.{SameExport, SameEdit, SameEntry, SameEntries, number_in, value_in, ReadingsAgree, StepsAgree, ReplaysAgree, FaultsAgree, PartsAgree}
+use Rattle.edit_commands.specs.Agreement.{SameExport, SameEdit, SameEntry, SameEntries, StepsAgree, ReplaysAgree, FaultsAgree, PartsAgree}
 
 -- ---- what one line says
 
@@ -53,39 +50,6 @@ same_edits U (SetLine d i v) e f h k = along U e f (SetEdit d i v) refl h k
 same_edits U (PokeLine d v ks) e f h k = same_pokes U d v ks e f h k
 same_edits U (JoinLine x) e f h k = along U e f (JoinEdit x) refl h k
 same_edits U (LeaveLine d) e f h k = along U e f (LeaveEdit d) refl h k
-
-along_entry : (U : Unfolding) (e f g : EntryValue) → SameEntry U g g → e ≡ g → f ≡ g → SameEntry U e f
-along_entry U e f g s h k = subst (λ x. SameEntry U x f) (sym h) (subst (SameEntry U g) (sym k) s)
-
-same_entry : (U : Unfolding) (l : LogLine) (e f : EntryValue) → IsEntry U l e → IsEntry U l f → SameEntry U e f
-same_entry U (BeginLine d) e f h k = along_entry U e f (BeginEntry d) refl h k
-same_entry U (EndLine d) e f h k = along_entry U e f (EndEntry d) refl h k
-same_entry U IdleLine e f h k = along_entry U e f IdleEntry refl h k
-same_entry U (OfEdit l) (EditEntry e) (EditEntry f) h k = same_edits U l e f h k
-same_entry U (OfEdit l) (EditEntry e) (BeginEntry d) h k = absurd k
-same_entry U (OfEdit l) (EditEntry e) (EndEntry d) h k = absurd k
-same_entry U (OfEdit l) (EditEntry e) IdleEntry h k = absurd k
-same_entry U (OfEdit l) (BeginEntry d) f h k = absurd h
-same_entry U (OfEdit l) (EndEntry d) f h k = absurd h
-same_entry U (OfEdit l) IdleEntry f h k = absurd h
-
-said_agree : (U : Unfolding) (ls : List (ℕ × LogLine)) (es fs : List (ℕ × EntryValue)) → AreSaid (IsEntry U) ls es → AreSaid (IsEntry U) ls fs → (map number_in es ≡ map number_in fs) × SameEntries U (map value_in es) (map value_in fs)
-said_agree U [] [] [] h k = (refl, tt)
-said_agree U [] [] (f ∷ fs) h k = absurd k
-said_agree U [] (e ∷ es) fs h k = absurd h
-said_agree U (l ∷ ls) [] fs h k = absurd h
-said_agree U (l ∷ ls) (e ∷ es) [] h k = absurd k
-said_agree U (l ∷ ls) (e ∷ es) (f ∷ fs) h k =
-    let ih = said_agree U ls es fs h.2 k.2 in
-    let n : e.0 ≡ f.0 = h.0 ∙ sym k.0 in
-    (ap (λ m. m ∷ map number_in es) n ∙ ap (λ ms. f.0 ∷ ms) ih.0, (same_entry U l.1 e.1 f.1 h.1 k.1, ih.1))
-
-pub readings_agree : ReadingsAgree
-readings_agree U n text es fs h k = by_case (log_of U n text) h k
-  where
-    by_case : (r : Lines Fault LogLine) → SaidBy (IsEntry U) es r → SaidBy (IsEntry U) fs r → (map number_in es ≡ map number_in fs) × SameEntries U (map value_in es) (map value_in fs)
-    by_case (AllLines ls) h k = said_agree U ls es fs h k
-    by_case (StopsAt m f) h k = absurd h
 
 -- ---- the same entries, replayed
 

@@ -8,10 +8,10 @@ pub mod Pokes
 pub mod Wide
 pub mod WideEdits
 pub mod ReadEdits
-pub mod EditEntries
 pub mod CutLines
 pub mod ReadLines
-pub mod ReadLogs
+pub mod SaidLines
+pub mod LinesOfEdits
 pub mod ValueTexts
 pub mod ScriptEdits
 pub mod ScriptWords
@@ -19,5 +19,4 @@ pub mod ReadScripts
 pub mod Agreeing
 pub mod CommandsAgreeing
 pub mod ScriptsJudged
-pub mod EntriesOfLogs
 pub mod CommandsOfScripts

@@ -1,5 +1,7 @@
 -- Crates above cite this module: a text, read line by line.
-use Rattle.std.proofs.Common.{ℕ, ◌≡◌, ◌+◌, ◌≤◌, Bool, true, false, ◌==◌, List, [], ◌∷◌, ◌++◌, length, refl, sym, ap, subst, ◌∙◌, arith, append_assoc, append-nil, if◌then◌else◌}
+use Rattle.std.proofs.Common.{ℕ, ◌≡◌, ◌+◌, ◌≤◌, Bool, true, false, ◌==◌, List, [], ◌∷◌, ◌++◌, length, length-append, map, refl, sym, ap, subst, ◌∙◌, arith, append_assoc, append-nil, if◌then◌else◌}
+use Rattle.std.proofs.lemmas.List.{map-append, length-map}
+use Rattle.std.specs.Prelude.{zip}
 use Rattle.std.proofs.lemmas.Bool.Decides.{nat_tests}
 use Rattle.fc_io.specs.Lines.{lines_of}
 use Rattle.edit_commands.specs.LineByLine.{Judgement, Accepted, Refused, WhereAccepted, Lines, AllLines, StopsAt, onto, and_lines, lines_from, Does, AreSaid, SaidBy}
@@ -120,3 +122,22 @@ module _ {S R A B : Type 0} (judge : S → List ℕ → Judgement R A) (next : S
       let all : lines_from judge next start 1 (lines_of text) ≡ AllLines r.lines =
       sym r.so_far ∙ ap (λ x. behind r.lines (lines_from judge next now (number + 1) (lines_of x))) none ∙ ap AllLines (append-nil r.lines) in
       subst (SaidBy Says xs) (sym all) r.says
+
+-- one more thing, beside the number of its line
+zip_more : {A B : Type 0} (ks : List A) (xs : List B) (k : A) (x : B) → length ks ≡ length xs → zip (ks ++ k ∷ []) (xs ++ x ∷ []) ≡ zip ks xs ++ (k, x) ∷ []
+zip_more [] [] k x h = refl
+zip_more [] (y ∷ ys) k x h = absurd (omega arith)
+zip_more (j ∷ js) [] k x h = absurd (omega arith)
+zip_more (j ∷ js) (y ∷ ys) k x h = ap (λ zs. (j, y) ∷ zs) (zip_more js ys k x (omega arith))
+
+-- and in code
+pub one_read : {B C : Type 0} (view : C → B) (ks lines : List ℕ) (xs read : List C) (k : ℕ) (x : C) → length ks ≡ length xs → lines ≡ ks ++ k ∷ [] → read ≡ xs ++ x ∷ []
+    → zip lines (map view read) ≡ zip ks (map view xs) ++ (k, view x) ∷ []
+one_read view ks lines xs read k x long l m =
+    ap (λ js. zip js (map view read)) l
+    ∙ ap (λ ys. zip (ks ++ k ∷ []) (map view ys)) m
+    ∙ ap (zip (ks ++ k ∷ [])) (map-append view xs (x ∷ []))
+    ∙ zip_more ks (map view xs) k (view x) (omega (arith, long, length-map xs view))
+
+pub same_lengths : {X Y : Type 0} (xs new : List X) (ys more : List Y) (x : X) (y : Y) → new ≡ xs ++ x ∷ [] → more ≡ ys ++ y ∷ [] → length xs ≡ length ys → length new ≡ length more
+same_lengths xs new ys more x y n m h = omega (arith, ap length n, ap length m, length-append xs (x ∷ []), length-append ys (y ∷ []), h)

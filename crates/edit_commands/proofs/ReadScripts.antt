@@ -12,7 +12,7 @@ use Rattle.edit_commands.specs.ScriptCode.{IsWithin, HasLineFaultAt}
 use Rattle.edit_commands.proofs.CutLines.{IsCut}
 use Rattle.edit_commands.proofs.ReadLines as lines
 use Rattle.edit_commands.proofs.ReadLines.{AllFit}
-use Rattle.edit_commands.proofs.ReadLogs.{edit_declared}
+use Rattle.edit_commands.proofs.LinesOfEdits.{edit_declared}
 
 line_declared : (p : Progress) (l : ScriptLine) → (progress_after p l).net.declared ≡ p.net.declared
 line_declared p (RunLine r) = refl

@@ -1,10 +1,9 @@
--- Readings of one log: they may differ in what an export holds at the places of a branch that isn't taken, and in
--- nothing else.
-use Rattle.std.specs.Prelude.{ℕ, ◌≡◌, List, [], ◌∷◌, map}
+-- Entries and commands of two readings of one text: they may differ in what an export holds at the places of a branch
+-- that isn't taken, and in nothing else.
+use Rattle.std.specs.Prelude.{ℕ, ◌≡◌, List, [], ◌∷◌}
 use Rattle.fc_values.specs.Exports.{FlatExport}
 use Rattle.fc_nodes.specs.Program.{Unfolding}
 use Rattle.fc_nodes.specs.Flat.{IsExport, tree_export}
-use Rattle.topology.specs.Networks.{Network}
 use Rattle.firing_core.specs.declared.entries.ReplayFault.{ReplayFault}
 use Rattle.firing_core.specs.Entries.{EditValue, LinkEdit, UnlinkEdit, SetEdit, PokeEdit, JoinEdit}
 use Rattle.firing_core.specs.Entries.{LeaveEdit, EntryValue, BeginEntry, EndEntry, IdleEntry, EditEntry}
@@ -13,7 +12,6 @@ use Rattle.firing_core.specs.Replays.{fault_of, net_fault_of, step_of, replay}
 use Rattle.firing_core.specs.Rounds.{after_edit}
 use Rattle.firing_core.specs.Books.{FailsReplay}
 use Rattle.edit_commands.specs.LineByLine.{AreSaid}
-use Rattle.edit_commands.specs.Logs.{IsLog}
 use Rattle.edit_commands.specs.Scripts.{ScriptLine, CommandValue, RunCommand, EditCommand, ScrambleCommand, ShowCommand, MixCommand, IsCommand}
 
 -- two exports of a program that stand for one tree
@@ -54,19 +52,6 @@ abbrev pub SameEntries : Unfolding → List EntryValue → List EntryValue → T
 SameEntries U [] [] = Unit {0}
 SameEntries U (e ∷ es) (f ∷ fs) = SameEntry U e f × SameEntries U es fs
 SameEntries U _ _ = ⊥
-
-abbrev pub number_in : ℕ × EntryValue → ℕ
-number_in e = e.0
-
-abbrev pub value_in : ℕ × EntryValue → EntryValue
-value_in e = e.1
-
--- two readings of a log have the same lines, and the same entries
-abbrev pub ReadingsAgree : Type 0
-ReadingsAgree =
-    (U : Unfolding) (n : Network) (text : List ℕ) (es fs : List (ℕ × EntryValue))
-    → IsLog U n text es → IsLog U n text fs
-    → (map number_in es ≡ map number_in fs) × SameEntries U (map value_in es) (map value_in fs)
 
 -- an entry and the same one are refused alike, and lead to the same core
 abbrev pub StepsAgree : Type 0

@@ -4,17 +4,20 @@ use Rattle.std.specs.Borrow.{Bor}
 use Rattle.fc_values.specs.Values.{local_of}
 use Rattle.topology.specs.Networks.{net_device_of}
 use Rattle.topology.specs.declared.types.TheConstants.{GREATEST_NUMBER}
+use Rattle.fc_nodes.specs.Program.{Program, unfolding_of}
+use Rattle.topology.specs.Networks.{Network}
+use Rattle.firing_core.specs.declared.entries.Edit.{Edit}
 use Rattle.firing_core.specs.CoreViews.{CoreValue, core_of}
+use Rattle.firing_core.specs.Entries.{edit_of}
 use Rattle.edit_commands.specs.declared.edits.EditLine.{EditLine as Line}
 use Rattle.edit_commands.specs.declared.edits.EditLine.TheVariants as line
 use Rattle.edit_commands.specs.declared.types.Fault.{Fault}
 use Rattle.edit_commands.specs.declared.types.LineFailure.{LineFailure}
 use Rattle.edit_commands.specs.declared.types.LineFailure.TheVariants as line_fault
-use Rattle.edit_commands.specs.declared.types.ScriptFault.{ScriptFault}
-use Rattle.edit_commands.specs.declared.types.ScriptFault.TheVariants as script
 use Rattle.edit_commands.specs.EditLines.{EditLine, LinkLine, UnlinkLine, SetLine, PokeLine, JoinLine, LeaveLine}
 use Rattle.edit_commands.specs.Narrow.{narrow_line}
-use Rattle.edit_commands.specs.LineByLine.{Judgement, Refused}
+use Rattle.edit_commands.specs.LineByLine.{Judgement, Refused, WhereAccepted}
+use Rattle.edit_commands.specs.Judging.{DoesEdit, edit_judged}
 
 -- words of a text
 abbrev pub texts : List (Bor (List ℕ)) → List (List ℕ)
@@ -58,10 +61,10 @@ abbrev pub HasFault : {A : Type 0} → Judgement Fault A → LineFailure → Typ
 HasFault judged (line_fault.Bad f) = judged ≡ Refused f
 HasFault judged line_fault.Memory = Unit {0}
 
--- the same, of the line of a number
-abbrev pub HasFaultAt : {A : Type 0} → ℕ → Judgement Fault A → ScriptFault → Type 0
-HasFaultAt number judged (script.At k f) = (k ≡ number) × (judged ≡ Refused f)
-HasFaultAt number judged (script.Lines count) = ⊥
-HasFaultAt number judged (script.Scrambles count) = ⊥
-HasFaultAt number judged (script.Firings count) = ⊥
-HasFaultAt number judged script.Memory = Unit {0}
+-- the edit that words say, with the network after it, or its fault
+abbrev pub IsEditOf : Program → Network → Network → List (Bor (List ℕ)) → Edit → Type 0
+IsEditOf p n after words e =
+    WhereAccepted (DoesEdit (unfolding_of p) n after (edit_of e)) (edit_judged (unfolding_of p) n (texts words))
+
+abbrev pub IsEditFault : Program → Network → List (Bor (List ℕ)) → LineFailure → Type 0
+IsEditFault p n words f = HasFault (edit_judged (unfolding_of p) n (texts words)) f

@@ -1,5 +1,5 @@
 -- Edits against the network that the lines before leave: the first fault, and the network after.
-use Rattle.std.specs.Prelude.{ℕ, Bool, ◌≡◌, not, ◌&&◌, is_none, nat_le, if◌then◌else◌}
+use Rattle.std.specs.Prelude.{ℕ, Bool, false, ◌≡◌, not, ◌&&◌, is_none, nat_le, if◌then◌else◌}
 use Rattle.std.specs.Prelude.{List, [], ◌∷◌, length, Option, Some, None, option_map}
 use Rattle.fc_values.specs.Values.{LocalValue}
 use Rattle.fc_values.specs.BuiltinTypes.{inner}
@@ -17,6 +17,7 @@ use Rattle.edit_commands.specs.declared.types.Fault.{Fault}
 use Rattle.edit_commands.specs.declared.types.Fault.TheVariants as fault
 use Rattle.edit_commands.specs.LineByLine.{Judgement, Refused, unless_fault, Does}
 use Rattle.edit_commands.specs.EditLines.{EditLine, LinkLine, UnlinkLine, SetLine, PokeLine, JoinLine, LeaveLine}
+use Rattle.edit_commands.specs.EditLines.{edit_line}
 
 -- a value and a list that are those of an export of a program
 abbrev pub fits_kept : Unfolding → LocalValue → List LocalValue → Bool
@@ -78,6 +79,10 @@ IsEdit U (LeaveLine d) e = e ≡ LeaveEdit d
 abbrev pub words_judged : Unfolding → Network → (ℕ → Bool) → Option EditLine → Judgement Fault EditLine
 words_judged U n flies None = Refused fault.Form
 words_judged U n flies (Some l) = unless_fault (edit_line_fault U n flies l) l
+
+-- that of a network, where it isn't judged whether a device that leaves flies
+abbrev pub edit_judged : Unfolding → Network → List (List ℕ) → Judgement Fault EditLine
+edit_judged U n words = words_judged U n (λ d. false) (edit_line n.declared.inputs words)
 
 -- an edit that a line says, with the network after it
 abbrev pub DoesEdit : Unfolding → Network → Network → EditValue → EditLine → Type 0

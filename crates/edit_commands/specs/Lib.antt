@@ -6,10 +6,7 @@ pub mod LineByLine
 pub mod Judging
 pub mod Narrow
 pub mod Code
-pub mod Logs
-pub mod LogCode
 pub mod Agreement
-pub mod LogEntries
 pub mod Scripts
 pub mod ScriptCode
 pub mod JudgedCommands

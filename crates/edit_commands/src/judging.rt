@@ -9,9 +9,9 @@ ghost use Rattle.topology.specs.Changes.{set_fault, with_input, join_fault, join
 ghost use Rattle.firing_core.specs.Entries.{edit_of, SetEdit, JoinEdit, LeaveEdit};
 ghost use Rattle.firing_core.specs.Cores.{EditFits};
 ghost use Rattle.edit_commands.specs.Judging.{net_fault, edit_line_fault, edited_network, IsEdit, PokesWith, poke_fault, leave_fault};
-ghost use Rattle.edit_commands.specs.Code.{line_of, LineFits, IsFaultOf, flies_in};
+ghost use Rattle.edit_commands.specs.Code.{line_of, LineFits, IsFaultOf, IsEditFault, IsEditOf, flies_in};
 
-use crate::edits::EditLine;
+use crate::edits::{EditLine, edit_line};
 use crate::types::{Fault, LineFailure};
 use fc_nodes::Unfolded;
 use fc_values::{Local, copy};
@@ -144,5 +144,26 @@ pub(crate) fn judge(
         EditLine::Poke(device, value, kept) => poke(alloc, program, net, device, value, kept),
         EditLine::Join(device) => join(alloc, net, device),
         EditLine::Leave(device) => leave(net, start, device),
+    }
+}
+
+/// The edit that words say, which is done to the network. Whether a device that leaves flies isn't judged.
+pub fn read_edit(
+    alloc: Global,
+    program: &Unfolded,
+    net: &mut Network,
+    words: &[&[u8]],
+) -> Result<Edit, LineFailure>
+    requires { net.old.declared ≡ program.now.declared }
+    ensures ok { IfOk result (IsEditOf program.now net.old net.new words.now) }
+    ensures refused { IfErr result (IsEditFault program.now net.old words.now) }
+{
+    let inputs = &program.declared().inputs;
+    let Some(line) = edit_line(alloc, inputs, words)? else {
+        return Err(LineFailure::Bad(Fault::Form));
+    };
+    match judge(alloc, program, net, None, line) {
+        Ok(edit) => Ok(edit),
+        Err(fault) => Err(fault),
     }
 }

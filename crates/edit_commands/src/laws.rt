@@ -1,8 +1,7 @@
 //! Laws of the definitions.
 
-ghost use Rattle.edit_commands.specs.Agreement.{CommandsAgree, FaultsAgree, PartsAgree, ReadingsAgree, ReplaysAgree, StepsAgree};
+ghost use Rattle.edit_commands.specs.Agreement.{CommandsAgree, FaultsAgree, PartsAgree, ReplaysAgree, StepsAgree};
 ghost use Rattle.edit_commands.specs.JudgedCommands.{ScriptsAreJudged};
-ghost use Rattle.edit_commands.specs.LogEntries.{LogsHaveEntries};
 ghost use Rattle.edit_commands.specs.ScriptCommands.{ScriptsHaveCommands};
 ghost use Rattle.edit_commands.specs.Values.{ValuesAreRead};
 
@@ -13,10 +12,9 @@ pub fn values_are_read()
     ensures { ValuesAreRead }
 {}
 
-/// Two readings of a log have the same lines and lead to the same core, or are refused at the same line for the same
-/// reason; after their last edit they are equal. Two readings of a script ask for the same.
-pub fn readings_agree()
-    ensures readings { ReadingsAgree }
+/// Entries and the same ones lead to the same core, or are refused at the same entry for the same reason; after their
+/// last edit they are equal. Two readings of a script ask for the same.
+pub fn entries_agree()
     ensures steps { StepsAgree }
     ensures replays { ReplaysAgree }
     ensures faults { FaultsAgree }
@@ -29,13 +27,6 @@ pub fn readings_agree()
 pub fn scripts_are_judged()
     ensures { ScriptsAreJudged }
 {}
-
-/// A log in which no line has a fault has entries, and they may be replayed.
-pub fn logs_have_entries()
-    ensures { LogsHaveEntries }
-{
-    lists_have_exports();
-}
 
 /// A script in which no line has a fault has commands, and they may be done.
 pub fn scripts_have_commands()

@@ -1,7 +1,7 @@
 //! The lines of scripts, and the faults of a text.
 
 use fc_values::Memory;
-use firing_core::{Edit, Entry};
+use firing_core::Edit;
 use std::alloc::{AllocError, AllocFailed};
 use topology::{JoinFault, NetFault};
 
@@ -21,13 +21,6 @@ pub enum ScriptCommand {
 pub struct Line {
     pub number: u32,
     pub command: ScriptCommand,
-}
-
-/// The entries of a log, and in a list as long the numbers of their lines from 1.
-#[derive(Drop)]
-pub struct Log {
-    pub lines: Vec<u32>,
-    pub entries: Vec<Entry>,
 }
 
 /// The fault of a line: it isn't one that its kind of text has, the network refuses its edit, or no export has its
@@ -52,7 +45,7 @@ pub enum ScriptFault {
 
 /// The fault of a line, or want of memory.
 #[derive(Clone, Copy, Debug, PartialEq, Eq)]
-pub(crate) enum LineFailure {
+pub enum LineFailure {
     Bad(Fault),
     Memory,
 }

@@ -3,7 +3,7 @@ use Rattle.std.proofs.Common.{ℕ, ◌≡◌, List, refl, subst}
 use Rattle.firing_core.specs.Cores.{Run}
 use Rattle.edit_commands.specs.LineByLine.{AllLines, StopsAt}
 use Rattle.edit_commands.specs.Scripts.{CommandValue, Script, TooManyLines, Within, script_of}
-use Rattle.log_texts.specs.ReadingBack.{log_lines}
+use Rattle.log_lines.specs.LogTexts.{entry_lines}
 use Rattle.session.specs.Laws.{ScriptRunsLead}
 use Rattle.command_frame.specs.Causes.{Judged, Accepted, Refused, AndThen}
 use Rattle.command_frame.specs.Inputs.{InputOf, ReadsInput}
@@ -28,7 +28,7 @@ module _ (lead : ScriptRunsLead) (written : WrittenLogsReplay) (options : RunOpt
         book = book;
         parts = h.parts;
         shown = h.shown;
-        lines = log_lines i.0.declared.inputs h.log;
+        lines = entry_lines i.0.declared.inputs h.log;
         lines_are = refl;
         is = refl;
         replays = λ asked j. written asked program network i h.log h.last j reads run;

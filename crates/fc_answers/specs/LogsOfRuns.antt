@@ -2,7 +2,7 @@
 use Rattle.std.specs.Prelude.{ℕ, ◌≡◌, List, ◌++◌, codes}
 use Rattle.firing_core.specs.declared.entries.Part.{Part}
 use Rattle.edit_commands.specs.LineByLine.{WhereAccepted}
-use Rattle.log_texts.specs.ReadingBack.{log_lines}
+use Rattle.log_lines.specs.LogTexts.{entry_lines}
 use Rattle.command_words.specs.declared.commands.ReplayOptions.{ReplayOptions}
 use Rattle.command_words.specs.declared.commands.RunOptions.{RunOptions}
 use Rattle.command_frame.specs.Answers.{AnswerValue, showing}
@@ -21,7 +21,7 @@ pub record LogReplays (options : RunOptions) (program network : List ℕ) (answe
   pub parts : List Part
   pub shown : List ℕ
   pub lines : List ℕ
-  pub lines_are : lines ≡ log_lines book.program.declared.inputs book.log
+  pub lines_are : lines ≡ entry_lines book.program.declared.inputs book.log
   pub is : answer ≡ showing (shown ++ where_asked options.log (codes "log\n" ++ lines)
       ++ where_asked options.table (table_line book.program book.core)) book parts
   pub replays : (asked : ReplayOptions) (j : Judged AnswerValue) → Replays asked program network lines j

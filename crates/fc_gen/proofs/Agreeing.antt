@@ -16,9 +16,9 @@ use Rattle.converge_laws.specs.Stabilising.{HasOneSolution, Stabilises}
 use Rattle.interval_facts.specs.Solutions.{SolvesMain}
 use Rattle.converge_laws.specs.Verdicts.{YesStabilises}
 use Rattle.report.specs.Texts.{export_value}
-use Rattle.scramble.specs.Rings.{ring}
+use Rattle.scenarios.specs.Rings.{ring}
 use Rattle.session.specs.ScriptRuns.{ScriptRun, poke}
-use Rattle.ring_laws.specs.Laws.{RingsAreNetworks, RingsAreTyped, RingsStabilise}
+use Rattle.scenarios.specs.Laws.{RingsAreNetworks, RingsAreTyped, RingsStabilise}
 use Rattle.fc_gen.specs.Gens.{Gens, scenario_lines, scenario_program, scenario_start}
 use Rattle.fc_gen.specs.Promises.{ScenarioAgrees, field_sum}
 use Rattle.fc_gen.specs.Summaries.{agreeing, firings_in, held_in, held_integer, held_sum, summary_text}

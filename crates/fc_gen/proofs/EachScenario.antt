@@ -10,8 +10,8 @@ use Rattle.converge_laws.specs.Stabilising.{Stabilises}
 use Rattle.converge_laws.specs.Verdicts.{YesStabilises}
 use Rattle.edit_commands.specs.JudgedCommands.{AreJudged}
 use Rattle.edit_commands.specs.Scripts.{at_start}
-use Rattle.scramble.specs.Rings.{ring, ring_program}
-use Rattle.ring_laws.specs.Laws.{RingsAreNetworks, RingsAreTyped, RingsStabilise}
+use Rattle.scenarios.specs.Rings.{ring, ring_program}
+use Rattle.scenarios.specs.Laws.{RingsAreNetworks, RingsAreTyped, RingsStabilise}
 use Rattle.fc_gen.specs.Gens.{empty_on, scenario_lines, scenario_program}
 
 -- a scenario's program has nodes

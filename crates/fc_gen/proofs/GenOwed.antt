@@ -4,7 +4,7 @@ use Rattle.unfold.specs.Laws.{ProgramsUnfold}
 use Rattle.firing_core.specs.Laws.{PlainRunsKeepNet, RunsKeepGood, StepsKeepGood}
 use Rattle.converge_laws.specs.Verdicts.{YesStabilises}
 use Rattle.session.specs.Laws.{OneScriptRun, SomeScriptRun}
-use Rattle.ring_laws.specs.Laws.{RingsAreNetworks, RingsAreTyped, RingsStabilise}
+use Rattle.scenarios.specs.Laws.{RingsAreNetworks, RingsAreTyped, RingsStabilise}
 use Rattle.command_words.specs.declared.commands.GenOptions.{GenOptions}
 use Rattle.command_frame.specs.Agreement.{Agree}
 use Rattle.command_frame.specs.Answers.{AnswerValue}

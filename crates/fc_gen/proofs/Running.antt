@@ -15,13 +15,14 @@ use Rattle.firing_core.specs.Cores.{Core}
 use Rattle.firing_core.specs.CoreViews.{CoreValue, core_of}
 use Rattle.firing_core.specs.Entries.{entry_of, entries_of}
 use Rattle.firing_core.specs.Starts.{started}
-use Rattle.scramble.specs.Rings.{ring}
+use Rattle.scenarios.specs.Rings.{ring}
 use Rattle.session.specs.ScriptRuns.{ScriptRun}
-use Rattle.session.specs.Sessions.{HasRun, SessionValue}
+use Rattle.session.specs.declared.sessions.Session.{Session}
+use Rattle.session.specs.Sessions.{HasRun}
 use Rattle.stable_field.specs.Stable.{IsStableField}
 use Rattle.command_frame.specs.Answers.{AnswerValue, showing}
 use Rattle.command_frame.specs.Ledgers.{book_of, ledger_of}
-use Rattle.ring_laws.specs.Laws.{RingsStabilise}
+use Rattle.scenarios.specs.Laws.{RingsStabilise}
 use Rattle.fc_gen.specs.Code.{FirstWithin, IsRun}
 use Rattle.fc_gen.specs.Gens.{Gens, empty_on, gen_text, scenario_lines, scenario_program, scenario_start}
 use Rattle.fc_gen.specs.Summaries.{agreeing, firings_in, held_sum, is_end, summary_text}
@@ -55,7 +56,7 @@ summed number devices rounds f a n field log now parts there core first second t
     ∙ ap (summary_text number devices rounds (firings_in (entries_of log) parts) (agreeing (core_of core) field)) sum
 
 -- a script that has run from a network without exports on
-pub is_run : (P Q : Program) (net : Network) (number rounds : ℕ) (core : CoreValue) (table : List (ℕ × Export)) (pending : List Snap) (s : SessionValue)
+pub is_run : (P Q : Program) (net : Network) (number rounds : ℕ) (core : CoreValue) (table : List (ℕ × Export)) (pending : List Snap) (s : Session)
     → Q ≡ P → table ≡ [] → pending ≡ [] → core_of core ≡ started (unfolding_of Q) net table pending
     → HasRun Q core (scenario_lines number rounds) s → IsRun P net number rounds s
 is_run P Q net number rounds core table pending s q t p c h =
@@ -63,39 +64,39 @@ is_run P Q net number rounds core table pending s q t p c h =
     record {
       program = h.program ∙ q;
       start = h.start ∙ start;
-      run = subst (λ (O : Program). ScriptRun (unfolding_of O) (empty_on net) (scenario_lines number rounds) (entries_of s.book.log) s.parts s.text (core_of s.book.core)) q
-          (subst (λ (k : Core). ScriptRun (unfolding_of Q) k (scenario_lines number rounds) (entries_of s.book.log) s.parts s.text (core_of s.book.core)) start h.run);
+      run = subst (λ (O : Program). ScriptRun (unfolding_of O) (empty_on net) (scenario_lines number rounds) (entries_of s.book.log) s.parts.items s.text.items (core_of s.book.core)) q
+          (subst (λ (k : Core). ScriptRun (unfolding_of Q) k (scenario_lines number rounds) (entries_of s.book.log) s.parts.items s.text.items (core_of s.book.core)) start h.run);
     }
 
-module _ (P : Program) (net : Network) (number rounds : ℕ) (s : SessionValue) (h : IsRun P net number rounds s) where
-  pub run_within : FirstWithin (length s.book.log) s.parts
+module _ (P : Program) (net : Network) (number rounds : ℕ) (s : Session) (h : IsRun P net number rounds s) where
+  pub run_within : FirstWithin (length s.book.log) s.parts.items
   run_within =
-      subst (λ n. FirstWithin n s.parts) (length-map s.book.log entry_of)
-      (within (unfolding_of P) (empty_on net) (core_of s.book.core) rounds (entries_of s.book.log) s.parts
-      (cut_of (unfolding_of P) (empty_on net) number rounds (entries_of s.book.log) s.parts s.text (core_of s.book.core) h.run))
+      subst (λ n. FirstWithin n s.parts.items) (length-map s.book.log entry_of)
+      (within (unfolding_of P) (empty_on net) (core_of s.book.core) rounds (entries_of s.book.log) s.parts.items
+      (cut_of (unfolding_of P) (empty_on net) number rounds (entries_of s.book.log) s.parts.items s.text.items (core_of s.book.core) h.run))
 
 -- what is given of a scenario that has run
 pub generated : RingsStabilise → (number devices rounds : ℕ) → rounds ≡ 2 + 2 * devices → 3 ≤ devices → devices ≤ 512 → (P : Program) → unfolding_of P ≡ scenario_program devices
-    → (net : Network) → net ≡ ring number devices → (s : SessionValue) → IsRun P net number rounds s
+    → (net : Network) → net ≡ ring number devices → (s : Session) → IsRun P net number rounds s
     → (field : Entries) → IsStableField (unfolding_of P) net field → (answer : AnswerValue)
-    → answer ≡ showing (gen_text number devices rounds field (entries_of s.book.log) s.parts (core_of s.book.core))
-    (ledger_of s.book) s.parts → Gens number devices answer
+    → answer ≡ showing (gen_text number devices rounds field (entries_of s.book.log) s.parts.items (core_of s.book.core))
+    (ledger_of s.book) s.parts.items → Gens number devices answer
 generated stabilise number devices rounds same low high P unfolded net ring_is s h field stable answer e =
     record {
       rounds = rounds;
       yes = stabilise devices devices low high ∙ ap verdict.Yes (sym same);
       log = entries_of s.book.log;
-      parts = s.parts;
-      shown = s.text;
+      parts = s.parts.items;
+      shown = s.text.items;
       last = core_of s.book.core;
-      run = subst (λ (n : Network). ScriptRun (scenario_program devices) (empty_on n) (scenario_lines number rounds) (entries_of s.book.log) s.parts s.text (core_of s.book.core)) ring_is
-          (subst (λ (U : Unfolding). ScriptRun U (empty_on net) (scenario_lines number rounds) (entries_of s.book.log) s.parts s.text (core_of s.book.core)) unfolded h.run);
+      run = subst (λ (n : Network). ScriptRun (scenario_program devices) (empty_on n) (scenario_lines number rounds) (entries_of s.book.log) s.parts.items s.text.items (core_of s.book.core)) ring_is
+          (subst (λ (U : Unfolding). ScriptRun U (empty_on net) (scenario_lines number rounds) (entries_of s.book.log) s.parts.items s.text.items (core_of s.book.core)) unfolded h.run);
       field = field;
       stable = subst (λ (n : Network). IsStableField (scenario_program devices) n field) ring_is
           (subst (λ (U : Unfolding). IsStableField U net field) unfolded stable);
       is = e
-          ∙ ap (λ b. showing (gen_text number devices rounds field (entries_of s.book.log) s.parts (core_of s.book.core)) b
-          s.parts) ledger;
+          ∙ ap (λ b. showing (gen_text number devices rounds field (entries_of s.book.log) s.parts.items (core_of s.book.core)) b
+          s.parts.items) ledger;
     }
   where
     ledger : ledger_of s.book ≡ book_of (scenario_program devices) (scenario_start number devices) (entries_of s.book.log) (core_of s.book.core)

@@ -10,10 +10,10 @@ use Rattle.firing_core.specs.Entries.{EntryValue}
 use Rattle.converge_laws.specs.Verdicts.{YesStabilises}
 use Rattle.edit_commands.specs.JudgedCommands.{AreJudged}
 use Rattle.edit_commands.specs.Scripts.{at_start}
-use Rattle.scramble.specs.Rings.{ring}
+use Rattle.scenarios.specs.Rings.{ring}
 use Rattle.session.specs.Laws.{SomeScriptRun}
 use Rattle.session.specs.ScriptRuns.{ScriptRun}
-use Rattle.ring_laws.specs.Laws.{RingsAreNetworks, RingsAreTyped, RingsStabilise}
+use Rattle.scenarios.specs.Laws.{RingsAreNetworks, RingsAreTyped, RingsStabilise}
 use Rattle.command_frame.specs.Answers.{AnswerValue, showing}
 use Rattle.command_frame.specs.Ledgers.{book_of}
 use Rattle.fc_gen.specs.Gens.{Gens, gen_text, scenario_lines, scenario_program, scenario_start}

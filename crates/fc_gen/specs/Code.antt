@@ -6,7 +6,7 @@ use Rattle.firing_core.specs.declared.entries.Part.{Part}
 use Rattle.firing_core.specs.CoreViews.{core_of}
 use Rattle.firing_core.specs.Entries.{entries_of}
 use Rattle.session.specs.ScriptRuns.{ScriptRun}
-use Rattle.session.specs.Sessions.{SessionValue}
+use Rattle.session.specs.declared.sessions.Session.{Session}
 use Rattle.fc_gen.specs.Gens.{empty_on, scenario_lines}
 
 -- a part lies within a log of so many entries
@@ -20,8 +20,8 @@ FirstWithin n [] = Unit {0}
 FirstWithin n (p ∷ ps) = IsWithin n p
 
 -- the session of a scenario's lines, from a network without exports on
-pub record IsRun (P : Program) (net : Network) (number rounds : ℕ) (s : SessionValue) : Type 0 where
+pub record IsRun (P : Program) (net : Network) (number rounds : ℕ) (s : Session) : Type 0 where
   pub program : s.book.program ≡ P
   pub start : core_of s.book.start ≡ empty_on net
-  pub run : ScriptRun (unfolding_of P) (empty_on net) (scenario_lines number rounds) (entries_of s.book.log) s.parts
-      s.text (core_of s.book.core)
+  pub run : ScriptRun (unfolding_of P) (empty_on net) (scenario_lines number rounds) (entries_of s.book.log)
+      s.parts.items s.text.items (core_of s.book.core)

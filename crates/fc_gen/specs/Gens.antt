@@ -12,7 +12,7 @@ use Rattle.firing_core.specs.Cores.{Core}
 use Rattle.firing_core.specs.Entries.{EntryValue}
 use Rattle.fragment_check.specs.Verdicts.{verdict_of}
 use Rattle.edit_commands.specs.Scripts.{CommandValue, RunCommand, ScrambleCommand}
-use Rattle.scramble.specs.Rings.{ring, ring_program}
+use Rattle.scenarios.specs.Rings.{ring, ring_program}
 use Rattle.session.specs.ScriptRuns.{ScriptRun}
 use Rattle.stable_field.specs.Stable.{IsStableField}
 use Rattle.command_frame.specs.Answers.{AnswerValue, showing}

@@ -3,7 +3,7 @@ use Rattle.std.specs.Prelude.{ℕ, true, ◌≡◌, ◌≤◌, ◌+◌, ◌*◌,
 use Rattle.fc_values.specs.Values.{LocalValue}
 use Rattle.topology.specs.Networks.{NetDevice}
 use Rattle.converge_laws.specs.Stabilising.{Stabilises}
-use Rattle.scramble.specs.Rings.{ring}
+use Rattle.scenarios.specs.Rings.{ring}
 use Rattle.fc_values.specs.declared.limits.TheConstants.{MOST_SCENARIO_DEVICES}
 use Rattle.command_words.specs.declared.commands.GenOptions.{GenOptions}
 use Rattle.command_frame.specs.Owing.{IsZero, Owes}

@@ -4,7 +4,7 @@ ghost use Rattle.fc_gen.specs.Promises.{GenOwes};
 
 use converge_laws::yes_stabilises;
 use firing_core::steps_keep_good;
-use ring_laws::{rings_are_networks, rings_are_typed, rings_stabilise};
+use scenarios::{rings_are_networks, rings_are_typed, rings_stabilise};
 use session::{one_script_run, some_script_run};
 use unfold::programs_unfold;
 

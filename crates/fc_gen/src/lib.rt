@@ -2,9 +2,9 @@
 #![tactic(auto)]
 
 mod counts;
+mod generating;
 mod laws;
-mod scenarios;
 mod summaries;
 
+pub use generating::generate;
 pub use laws::gen_owes;
-pub use scenarios::generate;

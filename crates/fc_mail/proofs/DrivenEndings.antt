@@ -10,7 +10,7 @@ use Rattle.firing_core.specs.Cores.{Core, IsGood}
 use Rattle.firing_core.specs.Books.{in_flight, ends_of}
 use Rattle.firing_core.specs.Laws.{StepsKeepGood, RunsKeepGood, FaultlessStep, LogsLeadToOne}
 use Rattle.message_links.specs.MailCores.{MailCore, MailEntryValue, MailRun, IsMailStart}
-use Rattle.scramble.specs.Words.{stream_of}
+use Rattle.scenarios.specs.Words.{stream_of}
 use Rattle.mail_drive.specs.Laws.{no_posts, DrivenLeads}
 use Rattle.mail_book.specs.MailViews.{quiet}
 use Rattle.mail_book.specs.MailLaws.{MailLogsLeadToOne}

@@ -12,7 +12,7 @@ use Rattle.message_links.specs.MailRounds.{posts_of, HasMailRounds}
 use Rattle.message_links.specs.declared.entries.MailFault.{MailFault}
 use Rattle.mail_laws.specs.Laws.{MailStabilises}
 use Rattle.message_links.proofs.MailRuns.{run_net}
-use Rattle.scramble.specs.Words.{stream_of}
+use Rattle.scenarios.specs.Words.{stream_of}
 use Rattle.session.specs.Promises.{HoldsField, field_on}
 use Rattle.session.proofs.ShownFields.{values_held}
 use Rattle.mail_drive.specs.Drives.{driven}

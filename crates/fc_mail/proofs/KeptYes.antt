@@ -14,7 +14,7 @@ use Rattle.mail_laws.specs.Laws.{MailStabilises, YesStabilisesMail}
 use Rattle.message_links.specs.MailCores.{MailEntryValue, IsMailStart}
 use Rattle.message_links.specs.MailRounds.{HasMailRounds}
 use Rattle.message_links.proofs.MailRuns.{fewer_rounds}
-use Rattle.scramble.specs.Words.{stream_of}
+use Rattle.scenarios.specs.Words.{stream_of}
 use Rattle.mail_drive.specs.Laws.{DrivenRounds, NoMoreRounds, no_posts}
 use Rattle.mail_lines.specs.MailLines.{mail_log}
 use Rattle.edit_commands.specs.LineByLine.{Lines, AllLines, StopsAt}

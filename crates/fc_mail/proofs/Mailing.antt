@@ -7,7 +7,7 @@ use Rattle.message_links.specs.MailRounds.{posts_of}
 use Rattle.message_links.specs.declared.entries.MailReplay.{MailReplay}
 use Rattle.message_links.specs.declared.entries.MailReplay.TheVariants as replay
 use Rattle.edit_commands.specs.LineByLine.{Lines, AllLines, StopsAt, SaidBy, AreSaid}
-use Rattle.mail_lines.specs.MailLines.{mail_log, IsMailLog, numbered}
+use Rattle.mail_lines.specs.MailLines.{mail_log, IsMailLog}
 use Rattle.mail_book.specs.MailReplays.{FailsMail}
 use Rattle.mail_book.specs.MailViews.{quiet}
 use Rattle.mail_count.specs.Laws.{IsGreatestMail}
@@ -23,20 +23,6 @@ use Rattle.command_frame.specs.Starts.{start_of}
 use Rattle.fc_mail.specs.Mails.{Mailed, mail_entries_in, MailsLines, Mails}
 use Rattle.fc_mail.specs.Code.{IsFaultyMail, IsStoppedMail, mail_stop, MailWithin}
 use Rattle.fc_mail.proofs.MailEndings.{told}
-
--- ---- entries with the numbers of their lines
-
-pub numbered_entries : (ks : List ℕ) (es : List MailEntryValue) → length ks ≡ length es → mail_entries_in (numbered ks es) ≡ es
-numbered_entries [] [] h = refl
-numbered_entries [] (e ∷ es) h = absurd (omega arith)
-numbered_entries (k ∷ ks) [] h = absurd (omega arith)
-numbered_entries (k ∷ ks) (e ∷ es) h = ap (λ xs. e ∷ xs) (numbered_entries ks es (omega arith))
-
-pub numbered_lines : (ks : List ℕ) (es : List MailEntryValue) → length ks ≡ length es → map (λ (l : ℕ × MailEntryValue). l.0) (numbered ks es) ≡ ks
-numbered_lines [] [] h = refl
-numbered_lines [] (e ∷ es) h = absurd (omega arith)
-numbered_lines (k ∷ ks) [] h = absurd (omega arith)
-numbered_lines (k ∷ ks) (e ∷ es) h = ap (λ xs. k ∷ xs) (numbered_lines ks es (omega arith))
 
 -- the lines of a log that is read are its entries
 same_lines : (ls es : Mailed) → AreSaid (λ (l e : MailEntryValue). e ≡ l) ls es → ls ≡ es

@@ -11,7 +11,7 @@ use Rattle.firing_core.specs.Entries.{entries_of}
 use Rattle.firing_core.specs.Cores.{Core, Run}
 use Rattle.firing_core.specs.Books.{in_flight, ends_of}
 use Rattle.message_links.specs.MailCores.{MailCore, MailEntryValue, MailRun}
-use Rattle.scramble.specs.Words.{stream_of}
+use Rattle.scenarios.specs.Words.{stream_of}
 use Rattle.mail_drive.specs.Drives.{driven}
 use Rattle.mail_drive.specs.Laws.{no_posts}
 use Rattle.mail_book.specs.MailViews.{quiet}

@@ -20,7 +20,7 @@ use command_frame::{Answer, LineFault, Stop, log_refusal, read_input, start, ste
 use fc_nodes::Unfolded;
 use fc_values::Memory;
 use mail_book::{Mail, MailBook, replay_mail};
-use mail_lines::{MailLineFault, MailLines, read_mail};
+use mail_lines::{MailLines, read_mail};
 use message_links::{MailFault, MailReplay};
 use net_json::Scene;
 use std::alloc::Global;
@@ -70,10 +70,9 @@ fn read_lines(alloc: Global, log: &[u8]) -> Result<MailLines, Stop>
     ensures many { IfOk result (λ l. length l.lines.items ≡ length l.entries.items) }
     ensures refused { IfErr result (StopsFor (IsFaultyMail (lines_of_log log.now))) }
 {
-    match read_mail(alloc, log) {
+    match read_mail(alloc, log)? {
         Ok(lines) => Ok(lines),
-        Err(MailLineFault::Form(line)) => { Err(Stop::Refused(log_refusal(line, LineFault::Form))) }
-        Err(MailLineFault::Memory) => Err(Stop::Memory),
+        Err(line) => Err(Stop::Refused(log_refusal(line, LineFault::Form))),
     }
 }
 

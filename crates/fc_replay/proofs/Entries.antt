@@ -1,6 +1,8 @@
 -- The entries of a log, with the numbers of their lines.
 use Rattle.std.proofs.Common.{ℕ, suc, ◌≡◌, ◌<◌, List, [], ◌∷◌, length, map, refl, ap, ◌∙◌, sym, arith, length-append}
 use Rattle.std.proofs.lemmas.List.{length-map}
+use Rattle.std.proofs.lemmas.Slice.Zip.{firsts-zip, seconds-zip}
+use Rattle.std.specs.Prelude.{zip}
 use Rattle.fc_nodes.specs.Program.{Unfolding}
 use Rattle.firing_core.specs.Cores.{Core}
 use Rattle.firing_core.specs.declared.entries.Entry.{Entry}
@@ -9,23 +11,8 @@ use Rattle.firing_core.specs.declared.entries.ReplayFault.{ReplayFault}
 use Rattle.firing_core.specs.declared.entries.ReplayFault.TheVariants as replay_fault
 use Rattle.firing_core.specs.Replays.{FailsAt}
 use Rattle.firing_core.specs.Books.{FailsReplay}
-use Rattle.edit_commands.specs.Logs.{numbered}
 use Rattle.fc_replay.specs.Code.{StopsWithin}
 use Rattle.fc_replay.specs.Stopping.{Logged, entries_in}
-
--- entries with their numbers, and without
-pub log_entries : (ks : List ℕ) (es : List EntryValue) → length ks ≡ length es → es ≡ entries_in (numbered ks es)
-log_entries [] [] h = refl
-log_entries [] (e ∷ es) h = absurd (omega arith)
-log_entries (k ∷ ks) [] h = absurd (omega arith)
-log_entries (k ∷ ks) (e ∷ es) h = ap (λ l. e ∷ l) (log_entries ks es (omega arith))
-
-pub log_lines : (ks : List ℕ) (es : List EntryValue) → length ks ≡ length es
-    → ks ≡ map (λ (x : Logged). x.0) (numbered ks es)
-log_lines [] [] h = refl
-log_lines [] (e ∷ es) h = absurd (omega arith)
-log_lines (k ∷ ks) [] h = absurd (omega arith)
-log_lines (k ∷ ks) (e ∷ es) h = ap (λ l. k ∷ l) (log_lines ks es (omega arith))
 
 -- an index at which a log fails is within it
 within_log : {P : Core → EntryValue → Type 0} (U : Unfolding) (c : Core) (es : List EntryValue) (i : ℕ)
@@ -49,14 +36,13 @@ pub record HasRead (c start : Core) (log : List Logged) (lines : List ℕ) (es :
   pub entries_read : es ≡ entries_in log
 
 pub has_read : (c start : Core) (lines : List ℕ) (es : List Entry) → c ≡ start → length lines ≡ length es
-    → HasRead c start (numbered lines (entries_of es)) lines (entries_of es)
+    → HasRead c start (zip lines (entries_of es)) lines (entries_of es)
 has_read c start lines es same many =
     let long : length lines ≡ length (entries_of es) = many ∙ sym (length-map es entry_of) in
     record {
       same = same;
-      numbers_read = log_lines lines (entries_of es) long;
-      entries_read =
-          log_entries lines (entries_of es) long;
+      numbers_read = sym (firsts-zip lines (entries_of es) (sym long));
+      entries_read = sym (seconds-zip lines (entries_of es) (sym long));
     }
 
 pub lines_within : (U : Unfolding) (c start : Core) (log : List Logged) (lines : List ℕ) (es : List EntryValue)

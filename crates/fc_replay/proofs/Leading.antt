@@ -6,10 +6,10 @@ use Rattle.firing_core.specs.Entries.{EditValue, LinkEdit, UnlinkEdit, SetEdit, 
 use Rattle.firing_core.specs.Laws.{RunsAgree}
 use Rattle.firing_core.specs.Replays.{EntryFits, LogFits}
 use Rattle.edit_commands.specs.declared.types.Fault.{Fault}
-use Rattle.edit_commands.specs.Agreement.{SameEdit, SameEntry, SameEntries, ReadingsAgree}
+use Rattle.edit_commands.specs.Agreement.{SameEdit, SameEntry, SameEntries}
 use Rattle.edit_commands.specs.LineByLine.{Lines, AllLines, StopsAt, AreSaid, SaidBy}
-use Rattle.edit_commands.specs.LogEntries.{LogsHaveEntries}
-use Rattle.edit_commands.specs.Logs.{LogLine, log_of, IsEntry}
+use Rattle.log_lines.specs.LogEntries.{LogsHaveEntries}
+use Rattle.log_lines.specs.Logs.{LogLine, log_of, IsEntry, ReadingsAgree}
 use Rattle.command_frame.specs.declared.refusal.LineFault.{LineFault}
 use Rattle.command_frame.specs.Causes.{Judged, Accepted}
 use Rattle.command_frame.specs.Inputs.{InputOf, ReadsInput}

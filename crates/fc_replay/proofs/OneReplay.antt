@@ -10,8 +10,8 @@ use Rattle.report.specs.Texts.{values_text}
 use Rattle.report.specs.Verdicts.{rounds_text}
 use Rattle.edit_commands.specs.declared.types.Fault.{Fault}
 use Rattle.edit_commands.specs.LineByLine.{Lines, AllLines, StopsAt, SaidBy}
-use Rattle.edit_commands.specs.Logs.{LogLine, log_of, IsEntry}
-use Rattle.edit_commands.specs.Agreement.{SameEntries, ReadingsAgree, StepsAgree, ReplaysAgree, PartsAgree}
+use Rattle.log_lines.specs.Logs.{LogLine, log_of, IsEntry, ReadingsAgree}
+use Rattle.edit_commands.specs.Agreement.{SameEntries, StepsAgree, ReplaysAgree, PartsAgree}
 use Rattle.command_frame.specs.declared.refusal.LineFault.{LineFault}
 use Rattle.command_frame.specs.Agreement.{Agree}
 use Rattle.command_frame.specs.Answers.{showing, AnswerValue}

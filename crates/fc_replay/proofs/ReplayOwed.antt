@@ -11,12 +11,12 @@ use Rattle.firing_core.specs.Rounds.{HasRounds, after_edit}
 use Rattle.round_count.specs.Laws.{SomeGreatest}
 use Rattle.converge_laws.specs.Verdicts.{IsSettled, YesStabilises}
 use Rattle.net_json.specs.Scenes.{SceneValue}
-use Rattle.edit_commands.specs.Agreement.{PartsAgree, ReadingsAgree, ReplaysAgree}
+use Rattle.edit_commands.specs.Agreement.{PartsAgree, ReplaysAgree}
 use Rattle.edit_commands.specs.Agreement.{StepsAgree as EntriesAgree}
 use Rattle.edit_commands.specs.declared.types.Fault.{Fault}
 use Rattle.edit_commands.specs.LineByLine.{Lines, AllLines, StopsAt}
-use Rattle.edit_commands.specs.LogEntries.{LogsHaveEntries}
-use Rattle.edit_commands.specs.Logs.{LogLine, log_of}
+use Rattle.log_lines.specs.LogEntries.{LogsHaveEntries}
+use Rattle.log_lines.specs.Logs.{LogLine, log_of, ReadingsAgree}
 use Rattle.command_words.specs.declared.commands.ReplayOptions.{ReplayOptions}
 use Rattle.round_count.proofs.EditsInLogs.{fewer}
 use Rattle.command_frame.specs.declared.refusal.LineFault.{LineFault}

@@ -12,10 +12,8 @@ use Rattle.firing_core.specs.CoreViews.{CoreValue, core_of, program_of}
 use Rattle.net_json.specs.Scenes.{SceneValue}
 use Rattle.report.specs.Texts.{values_text}
 use Rattle.edit_commands.specs.declared.types.Fault.{Fault}
-use Rattle.edit_commands.specs.declared.types.ScriptFault.{ScriptFault}
-use Rattle.edit_commands.specs.declared.types.ScriptFault.TheVariants as script
 use Rattle.edit_commands.specs.LineByLine.{Lines, AllLines, StopsAt, SaidBy}
-use Rattle.edit_commands.specs.Logs.{LogLine, IsEntry, RefusesLog, log_of}
+use Rattle.log_lines.specs.Logs.{LogLine, IsEntry, log_of}
 use Rattle.command_frame.specs.declared.refusal.LineFault.{LineFault}
 use Rattle.command_frame.specs.declared.refusal.LineFault.TheVariants.{Net}
 use Rattle.command_frame.specs.Answers.{showing, AnswerValue}
@@ -30,7 +28,7 @@ use Rattle.command_frame.specs.Tables.{table_line, where_asked}
 use Rattle.command_words.specs.declared.commands.ReplayOptions.{ReplayOptions}
 use Rattle.fc_replay.specs.Stopping.{Logged, entries_in, first_stop}
 use Rattle.fc_replay.specs.Replays.{RoundsAsked, IsText, ShowsBook, ReplaysEntries, ReplaysLog, Replays}
-use Rattle.fc_replay.specs.Code.{stop_of, IsFaultOfLog, fault_stop, IsFaulty, IsStopped, IsReplayed}
+use Rattle.fc_replay.specs.Code.{stop_of, IsFaulty, IsStopped, IsReplayed}
 use Rattle.fc_replay.proofs.Entries.{HasRead}
 use Rattle.fc_replay.proofs.Stops.{RunsAreReplays, step_stops, edit_stops, never_stops}
 
@@ -90,22 +88,9 @@ is_text options book one two rounds table a b d e first second held none is coun
     ∙ ap (λ (k : CoreValue). values_text (core_of k)) first))
 
 -- ---- the log
-pub is_fault_of_log : (U : Unfolding) (n : Network) (text : List ℕ) (fault : ScriptFault) → RefusesLog U n text fault
-    → IsFaultOfLog fault
-is_fault_of_log U n text (script.At at fault) h = tt
-is_fault_of_log U n text (script.Lines count) h = absurd h
-is_fault_of_log U n text (script.Scrambles count) h = absurd h
-is_fault_of_log U n text (script.Firings count) h = absurd h
-is_fault_of_log U n text script.Memory h = tt
-
-pub is_faulty : (U : Unfolding) (n : Network) (text : List ℕ) (fault : ScriptFault) → RefusesLog U n text fault
-    → StopsFor (IsFaulty (log_of U n text)) (fault_stop fault)
-is_faulty U n text (script.At at fault) h = subst (λ j. IsFaulty j (Plainly (log_refusal at (fault_in fault))))
-    (sym h) refl
-is_faulty U n text (script.Lines count) h = absurd h
-is_faulty U n text (script.Scrambles count) h = absurd h
-is_faulty U n text (script.Firings count) h = absurd h
-is_faulty U n text script.Memory h = tt
+pub is_faulty : (U : Unfolding) (n : Network) (text : List ℕ) (at : ℕ) (fault : Fault) → log_of U n text ≡ StopsAt at fault
+    → IsFaulty (log_of U n text) (Plainly (log_refusal at (fault_in fault)))
+is_faulty U n text at fault h = subst (λ j. IsFaulty j (Plainly (log_refusal at (fault_in fault)))) (sym h) refl
 
 -- ---- the texts
 module _ (options : ReplayOptions) (program network log : List ℕ) (U : Unfolding) (s : SceneValue)

@@ -5,8 +5,9 @@ use Rattle.firing_core.specs.Cores.{Core, IsGood, Run}
 use Rattle.firing_core.specs.Entries.{EntryValue}
 use Rattle.edit_commands.specs.declared.types.Fault.{Fault}
 use Rattle.edit_commands.specs.LineByLine.{Lines, AllLines, StopsAt, SaidBy, WhereAccepted}
-use Rattle.edit_commands.specs.Logs.{LogLine, IsEntry, log_of}
-use Rattle.log_texts.specs.ReadingBack.{log_lines, numbered_from, AreNamed, ReadsBack, StandFor, LogsReadBack}
+use Rattle.log_lines.specs.Logs.{LogLine, IsEntry, log_of}
+use Rattle.log_lines.specs.LogTexts.{entry_lines}
+use Rattle.log_lines.specs.ReadingBack.{numbered_from, AreNamed, ReadsBack, StandFor, LogsReadBack}
 use Rattle.command_frame.specs.declared.refusal.LineFault.{LineFault}
 use Rattle.command_frame.specs.Answers.{showing, AnswerValue}
 use Rattle.command_frame.specs.Causes.{Judged, Accepted, AndThen}
@@ -44,7 +45,7 @@ module _ (options : ReplayOptions) (U : Unfolding) (start last : Core) (log : Li
       there b = one_core b.core last (sym b.leads ∙ s.leads)
 
   abbrev written : List ℕ
-  written = log_lines U.declared.inputs log
+  written = entry_lines U.declared.inputs log
 
   by_lines : ReadsBack U start log last → (lines : Lines Fault LogLine) → log_of U start.net written ≡ lines
       → SaidBy (IsEntry U) (numbered_from 1 log) lines → ReplaysLog options U start lines j → Shows
@@ -60,10 +61,10 @@ written_logs input starts unfolds names law options program network i log last j
     let p = unfolds program network i reads in
     let back : ReadsBack i.0 (start_of i.1) log last =
     subst AtProgram p.2 (law p.0 (start_of i.1) last log p.1) (names program i.0 there.text) there.good run in
-    by_lines options i.0 (start_of i.1) last log j back (log_of i.0 i.1.net (log_lines i.0.declared.inputs log)) refl
+    by_lines options i.0 (start_of i.1) last log j back (log_of i.0 i.1.net (entry_lines i.0.declared.inputs log)) refl
     back.says
     (subst (λ k. AndThen k (λ q s. ReplaysLog options q.0 (start_of q.1)
-    (log_of q.0 q.1.net (log_lines i.0.declared.inputs log)) s) j) same h.ends)
+    (log_of q.0 q.1.net (entry_lines i.0.declared.inputs log)) s) j) same h.ends)
   where
     AtProgram : Unfolding → Type 0
     AtProgram U = AreNamed U.declared.inputs → IsGood U (start_of i.1) → Run U (start_of i.1) log last

@@ -14,8 +14,8 @@ use Rattle.firing_core.specs.Replays.{LogFits, and_replay, begin_fault, end_faul
 use Rattle.round_count.specs.Laws.{SomeGreatest}
 use Rattle.edit_commands.specs.declared.types.Fault.{Fault}
 use Rattle.edit_commands.specs.LineByLine.{Lines, AllLines, StopsAt, SaidBy}
-use Rattle.edit_commands.specs.LogEntries.{LogsHaveEntries}
-use Rattle.edit_commands.specs.Logs.{LogLine, log_of, IsEntry}
+use Rattle.log_lines.specs.LogEntries.{LogsHaveEntries}
+use Rattle.log_lines.specs.Logs.{LogLine, log_of, IsEntry}
 use Rattle.report.specs.Texts.{values_text}
 use Rattle.report.specs.Verdicts.{rounds_text}
 use Rattle.command_frame.specs.declared.refusal.LineFault.{LineFault}

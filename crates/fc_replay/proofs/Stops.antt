@@ -6,7 +6,8 @@ use Rattle.firing_core.specs.declared.entries.StepFault.{StepFault}
 use Rattle.firing_core.specs.Cores.{Core, Run, IsGood}
 use Rattle.firing_core.specs.Entries.{EntryValue, BeginEntry, EndEntry, IdleEntry, EditEntry}
 use Rattle.firing_core.specs.Replays.{fault_of, net_fault_of, unless, step_of, step, and_replay, replay, LogFits, FailsAt}
-use Rattle.edit_commands.specs.Agreement.{SameEntries, StepsAgree, number_in}
+use Rattle.edit_commands.specs.Agreement.{SameEntries, StepsAgree}
+use Rattle.log_lines.specs.Logs.{number_in}
 use Rattle.command_frame.specs.declared.refusal.LineFault.{LineFault}
 use Rattle.command_frame.specs.declared.refusal.LineFault.TheVariants.{Net}
 use Rattle.command_frame.specs.LineFaults.{step_fault}

@@ -6,10 +6,8 @@ use Rattle.firing_core.specs.declared.entries.ReplayFault.TheVariants as replay_
 use Rattle.firing_core.specs.Cores.{Core}
 use Rattle.firing_core.specs.Replays.{replay}
 use Rattle.edit_commands.specs.declared.types.Fault.{Fault}
-use Rattle.edit_commands.specs.declared.types.ScriptFault.{ScriptFault}
-use Rattle.edit_commands.specs.declared.types.ScriptFault.TheVariants as script
 use Rattle.edit_commands.specs.LineByLine.{Lines, AllLines, StopsAt}
-use Rattle.edit_commands.specs.Logs.{LogLine}
+use Rattle.log_lines.specs.Logs.{LogLine}
 use Rattle.command_frame.specs.declared.refusal.LineFault.{LineFault}
 use Rattle.command_frame.specs.declared.refusal.LineFault.TheVariants.{Net}
 use Rattle.command_frame.specs.declared.stop.Stop.{Stop}
@@ -32,21 +30,6 @@ abbrev pub StopsWithin : ℕ → ReplayFault → Type 0
 StopsWithin n (replay_fault.At index why) = index < n
 StopsWithin n (replay_fault.EditAt index why) = index < n
 StopsWithin n replay_fault.Memory = Unit {0}
-
--- a fault of a log: the limits of scripts never come
-abbrev pub IsFaultOfLog : ScriptFault → Type 0
-IsFaultOfLog (script.At at fault) = Unit {0}
-IsFaultOfLog (script.Lines count) = ⊥
-IsFaultOfLog (script.Scrambles count) = ⊥
-IsFaultOfLog (script.Firings count) = ⊥
-IsFaultOfLog script.Memory = Unit {0}
-
-abbrev pub fault_stop : ScriptFault → Stop
-fault_stop (script.At at fault) = stop.Refused (log_refusal at (fault_in fault))
-fault_stop (script.Lines count) = stop.Memory
-fault_stop (script.Scrambles count) = stop.Memory
-fault_stop (script.Firings count) = stop.Memory
-fault_stop script.Memory = stop.Memory
 
 -- the cause by which a log isn't read
 abbrev pub IsFaulty : Lines Fault LogLine → Cause → Type 0

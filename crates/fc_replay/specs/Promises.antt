@@ -8,7 +8,7 @@ use Rattle.firing_core.specs.Cores.{Core, Run}
 use Rattle.round_count.specs.Laws.{IsGreatest}
 use Rattle.converge_laws.specs.Verdicts.{IsSettled}
 use Rattle.net_json.specs.Scenes.{SceneValue}
-use Rattle.edit_commands.specs.Logs.{IsLog}
+use Rattle.log_lines.specs.Logs.{IsLog}
 use Rattle.command_words.specs.declared.commands.ReplayOptions.{ReplayOptions}
 use Rattle.fc_values.specs.declared.limits.TheConstants.{MOST_BYTES}
 use Rattle.command_frame.specs.Answers.{AnswerValue, showing}

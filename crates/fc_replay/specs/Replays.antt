@@ -8,7 +8,7 @@ use Rattle.firing_core.specs.Replays.{replay}
 use Rattle.round_count.specs.Laws.{IsGreatest}
 use Rattle.edit_commands.specs.declared.types.Fault.{Fault}
 use Rattle.edit_commands.specs.LineByLine.{Lines, AllLines, StopsAt, AreSaid}
-use Rattle.edit_commands.specs.Logs.{LogLine, IsEntry, log_of}
+use Rattle.log_lines.specs.Logs.{LogLine, IsEntry, log_of}
 use Rattle.report.specs.Texts.{values_text}
 use Rattle.report.specs.Verdicts.{rounds_text}
 use Rattle.command_frame.specs.declared.refusal.LineFault.{LineFault}

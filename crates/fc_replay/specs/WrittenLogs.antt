@@ -5,7 +5,7 @@ use Rattle.firing_core.specs.Cores.{Core, Run}
 use Rattle.firing_core.specs.Entries.{EntryValue}
 use Rattle.edit_commands.specs.Agreement.{SameEntries}
 use Rattle.edit_commands.specs.LineByLine.{WhereAccepted}
-use Rattle.log_texts.specs.ReadingBack.{log_lines}
+use Rattle.log_lines.specs.LogTexts.{entry_lines}
 use Rattle.command_frame.specs.Answers.{showing, AnswerValue}
 use Rattle.command_frame.specs.Causes.{Judged, Accepted}
 use Rattle.command_frame.specs.Ledgers.{book_of}
@@ -30,5 +30,5 @@ abbrev pub WrittenLogsReplay : Type 0
 WrittenLogsReplay =
     (options : ReplayOptions) (program network : List ℕ) (i : InputOf) (log : List EntryValue) (last : Core)
     (j : Judged AnswerValue) → ReadsInput program network (Accepted i)
-    → Run i.0 (start_of i.1) log last → Replays options program network (log_lines i.0.declared.inputs log) j
+    → Run i.0 (start_of i.1) log last → Replays options program network (entry_lines i.0.declared.inputs log) j
     → WhereAccepted (ShowsLog options i.0 (start_of i.1) log last) j

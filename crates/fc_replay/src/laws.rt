@@ -5,9 +5,9 @@ ghost use Rattle.fc_replay.specs.WrittenLogs.{WrittenLogsReplay};
 
 use command_frame::{inputs_are_read, inputs_start, one_input, texts_name_inputs, texts_unfold};
 use converge_laws::yes_stabilises;
-use edit_commands::{logs_have_entries, readings_agree};
+use edit_commands::entries_agree;
 use firing_core::{faultless_steps, runs_cut, steps_agree, steps_keep_good};
-use log_texts::logs_read_back;
+use log_lines::{logs_have_entries, logs_read_back, readings_agree};
 use round_count::some_greatest;
 
 /// `replay` has one answer to each input, but for what exports hold at the places of a branch that isn't taken. What it
@@ -23,6 +23,7 @@ pub fn replay_owes()
     runs_cut();
     faultless_steps();
     readings_agree();
+    entries_agree();
     logs_have_entries();
     some_greatest();
 }

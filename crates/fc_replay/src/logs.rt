@@ -3,15 +3,15 @@ ghost use Rattle.std.specs.Prelude.{◌≡◌, ◌<◌, ◌≤◌, IfErr, IfOk, 
 ghost use Rattle.fc_nodes.specs.Program.{unfolding_of};
 ghost use Rattle.firing_core.specs.Entries.{entries_of};
 ghost use Rattle.firing_core.specs.Replays.{LogFits};
-ghost use Rattle.edit_commands.specs.Logs.{IsLog, log_of, logged};
+ghost use Rattle.log_lines.specs.Logs.{IsLog, log_of, logged};
 ghost use Rattle.command_frame.specs.Stops.{StopsFor};
 ghost use Rattle.fc_values.specs.declared.limits.TheConstants.{MOST_BYTES};
-ghost use Rattle.fc_replay.specs.Code.{IsFaultOfLog, IsFaulty, StopsWithin, fault_stop, stop_of};
+ghost use Rattle.fc_replay.specs.Code.{IsFaulty, StopsWithin, stop_of};
 
 use command_frame::{LineFault, Stop, fault_in, log_refusal, step_fault, stop_at};
-use edit_commands::{Log, ScriptFault, read_log};
 use fc_nodes::Unfolded;
 use firing_core::ReplayFault;
+use log_lines::{Log, read_log};
 use std::alloc::Global;
 use topology::Network;
 
@@ -29,20 +29,6 @@ pub fn stop(lines: &[u32], fault: ReplayFault) -> Stop
     }
 }
 
-// The stop of a log that isn't read.
-fn fault_stop(fault: ScriptFault) -> Stop
-    requires { IsFaultOfLog fault }
-    ensures { result ≡ fault_stop fault }
-{
-    match fault {
-        ScriptFault::At { line, fault } => Stop::Refused(log_refusal(line, fault_in(fault))),
-        ScriptFault::Memory => Stop::Memory,
-        ScriptFault::Lines(_) | ScriptFault::Scrambles(_) | ScriptFault::Firings(_) => {
-            unreachable!()
-        }
-    }
-}
-
 /// The entries of the text of a log, with the numbers of their lines.
 pub fn read_entries(
     alloc: Global,
@@ -57,8 +43,8 @@ pub fn read_entries(
     ensures fits { IfOk result (λ l. LogFits (unfolding_of program.now) (entries_of l.entries.items)) }
     ensures refused { IfErr result (StopsFor (IsFaulty (log_of (unfolding_of program.now) net.now text.now))) }
 {
-    match read_log(alloc, program, net, text) {
+    match read_log(alloc, program, net, text)? {
         Ok(log) => Ok(log),
-        Err(fault) => Err(fault_stop(fault)),
+        Err((line, fault)) => Err(Stop::Refused(log_refusal(line, fault_in(fault)))),
     }
 }

@@ -1,4 +1,3 @@
-mod LogTexts
 mod OneRuns
 mod SomeRuns
 mod Running

@@ -7,7 +7,7 @@ use Rattle.firing_core.specs.Entries.{EntryValue}
 use Rattle.edit_commands.specs.Agreement.{SameCommands, SameEntries, CommandsAgree}
 use Rattle.edit_commands.specs.LineByLine.{AllLines, StopsAt}
 use Rattle.edit_commands.specs.Scripts.{CommandValue, Script, TooManyLines, Within}
-use Rattle.report.specs.Logs.{log_text}
+use Rattle.log_lines.specs.LogTexts.{log_text}
 use Rattle.session.specs.Laws.{OneScriptRun}
 use Rattle.session.specs.ScriptRuns.{ScriptRun}
 use Rattle.command_frame.specs.Agreement.{Agree}
@@ -18,7 +18,7 @@ use Rattle.command_frame.specs.Ledgers.{book_of}
 use Rattle.command_frame.specs.Tables.{table_line, where_asked}
 use Rattle.command_words.specs.declared.commands.RunOptions.{RunOptions}
 use Rattle.fc_run.specs.Runs.{run_text, RunsCommands, RunsScript}
-use Rattle.fc_run.proofs.LogTexts.{same_log}
+use Rattle.log_lines.proofs.SameTexts.{same_log}
 
 same_text : (options : RunOptions) (U : Unfolding) (log rest : List EntryValue) (last other : Core)
     (shown says : List ℕ) → SameEntries U log rest → last ≡ other → shown ≡ says

@@ -13,9 +13,10 @@ use Rattle.edit_commands.specs.LineByLine.{AllLines, StopsAt}
 use Rattle.edit_commands.specs.Scripts.{AllCommandsFit, at_start}
 use Rattle.edit_commands.specs.Scripts.{CommandValue, Script, TooManyLines, Within, IsScript, SaidByScript}
 use Rattle.edit_commands.specs.Scripts.{RefusesScript, script_of}
-use Rattle.report.specs.Logs.{log_text}
+use Rattle.log_lines.specs.LogTexts.{log_text}
 use Rattle.session.specs.ScriptRuns.{ScriptRun}
-use Rattle.session.specs.Sessions.{SessionValue, HasRun}
+use Rattle.session.specs.declared.sessions.Session.{Session}
+use Rattle.session.specs.Sessions.{HasRun}
 use Rattle.command_frame.specs.Answers.{AnswerValue, showing}
 use Rattle.command_frame.specs.Causes.{Cause, Judged, Accepted, Refused}
 use Rattle.command_frame.specs.Inputs.{ReadsInput}
@@ -66,7 +67,7 @@ module _ (options : RunOptions) (program network text : List ℕ) (U : Unfolding
 
   pub run_ran : (P : Program) → unfolding_of P ≡ U → (start : CoreValue) → core_of start ≡ start_of s
       → (commands : List (ℕ × CommandValue))
-      → IsScript U (core_of start) text commands → (session : SessionValue) → HasRun P start commands session
+      → IsScript U (core_of start) text commands → (session : Session) → HasRun P start commands session
       → (a : AnswerValue) → a ≡ ended_of options session → Runs options program network text (Accepted a)
   run_ran P unfolded start same commands said session h a e = record {
     judged = Accepted (U, s);
@@ -74,11 +75,11 @@ module _ (options : RunOptions) (program network text : List ℕ) (U : Unfolding
     ends = ran commands (Accepted a) (script_of U (start_of s) text)
         (subst (λ (c : Core). IsScript U c text commands) same said) (record {
           log = log;
-          parts = session.parts;
-          shown = session.text;
+          parts = session.parts.items;
+          shown = session.text.items;
           last = last;
-          run = subst (λ (c : Core). ScriptRun U c commands log session.parts session.text last) same
-              (subst (λ (V : Unfolding). ScriptRun V (core_of start) commands log session.parts session.text last)
+          run = subst (λ (c : Core). ScriptRun U c commands log session.parts.items session.text.items last) same
+              (subst (λ (V : Unfolding). ScriptRun V (core_of start) commands log session.parts.items session.text.items last)
               unfolded h.run);
           is = ap Accepted (e
               ∙ ap (λ (Q : Program). ending (unfolding_of Q) (core_of session.book.start)) h.program
@@ -94,7 +95,7 @@ module _ (options : RunOptions) (program network text : List ℕ) (U : Unfolding
       last = core_of session.book.core
 
       ending : Unfolding → Core → AnswerValue
-      ending V c = showing (run_text options V log last session.text) (book_of V c log last) session.parts
+      ending V c = showing (run_text options V log last session.text.items) (book_of V c log last) session.parts.items
 
 -- ---- the code's own names for a program: as it was read, behind a pointer, and lent
 module _ (options : RunOptions) (program network text : List ℕ) (S : Unfolding → SceneValue) (P V D : Program)
@@ -110,40 +111,32 @@ module _ (options : RunOptions) (program network text : List ℕ) (S : Unfolding
       (subst (λ (Q : Program). IsRefused (script_of (unfolding_of Q) start text) cause) (d ∙ v) h)
 
   pub lines_ran : (start : CoreValue) → core_of start ≡ start_of (S (unfolding_of V))
-      → (commands others : List (ℕ × CommandValue)) → others ≡ commands
-      → IsScript (unfolding_of D) (core_of start) text commands → (session : SessionValue)
-      → HasRun V start others session → (a : AnswerValue) → a ≡ ended_of options session
+      → (commands : List (ℕ × CommandValue)) → IsScript (unfolding_of D) (core_of start) text commands
+      → (session : Session) → HasRun V start commands session → (a : AnswerValue) → a ≡ ended_of options session
       → Runs options program network text (Accepted a)
-  lines_ran start same commands others e said session h a ended =
+  lines_ran start same commands said session h a ended =
       run_ran options program network text (unfolding_of P) (S (unfolding_of P)) reads P refl start
       (same_start (core_of start) same) commands
       (subst (λ (Q : Program). IsScript (unfolding_of Q) (core_of start) text commands) (d ∙ v) said) session
-      (subst (λ (Q : Program). HasRun Q start commands session) v
-      (subst (λ (cs : List (ℕ × CommandValue)). HasRun V start cs session) e h)) a ended
+      (subst (λ (Q : Program). HasRun Q start commands session) v h) a ended
 
 pub lines_judged : ScriptsAreJudged → (V D : Program) (start : Core) (text : List ℕ)
-    (commands others : List (ℕ × CommandValue)) → D ≡ V → others ≡ commands
-    → IsScript (unfolding_of D) start text commands → AllCommandsFit (unfolding_of D) commands
-    → AreJudged (unfolding_of V) start (at_start start.net) others
-lines_judged law V D start text commands others d e said fits =
-    subst (AreJudged (unfolding_of V) start (at_start start.net)) (sym e)
-    (law (unfolding_of V) start text commands
+    (commands : List (ℕ × CommandValue)) → D ≡ V → IsScript (unfolding_of D) start text commands
+    → AllCommandsFit (unfolding_of D) commands → AreJudged (unfolding_of V) start (at_start start.net) commands
+lines_judged law V D start text commands d said fits =
+    law (unfolding_of V) start text commands
     (subst (λ (Q : Program). IsScript (unfolding_of Q) start text commands) d said)
-    (subst (λ (Q : Program). AllCommandsFit (unfolding_of Q) commands) d fits))
+    (subst (λ (Q : Program). AllCommandsFit (unfolding_of Q) commands) d fits)
 
 -- ---- the text at the end of a session
-pub ended_text : (options : RunOptions) (s : SessionValue) (book : BookValue) (first second whole : List ℕ)
-    → book ≡ s.book → first ≡ s.text → book.core.program ≡ book.program
-    → second ≡ first
-    ++ where_asked options.log (log_text book.program.declared.inputs (entries_of book.log))
-    → whole ≡ second ++ where_asked options.table (table_line (program_of book.core) (core_of book.core))
-    → whole ≡ run_text options (unfolding_of s.book.program) (entries_of s.book.log) (core_of s.book.core) s.text
-ended_text options s book first second whole is said held logged tabled =
-    let lines : List ℕ = where_asked options.log (log_text book.program.declared.inputs (entries_of book.log)) in
+pub ended_text : (options : RunOptions) (s : Session) (second whole : List ℕ) → s.book.core.program ≡ s.book.program
+    → second ≡ s.text.items
+    ++ where_asked options.log (log_text s.book.program.declared.inputs (entries_of s.book.log))
+    → whole ≡ second ++ where_asked options.table (table_line (program_of s.book.core) (core_of s.book.core))
+    → whole ≡ run_text options (unfolding_of s.book.program) (entries_of s.book.log) (core_of s.book.core) s.text.items
+ended_text options s second whole held logged tabled =
     let table : Program → List ℕ = λ P. where_asked options.table
-    (table_line (unfolding_of P) (core_of book.core)) in
+    (table_line (unfolding_of P) (core_of s.book.core)) in
     tabled
     ∙ ap (λ (P : Program). second ++ table P) held
-    ∙ ap (λ (l : List ℕ). l ++ table book.program) logged
-    ∙ ap (λ (l : List ℕ). (l ++ lines) ++ table book.program) said
-    ∙ ap (λ (b : BookValue). run_text options (unfolding_of b.program) (entries_of b.log) (core_of b.core) s.text) is
+    ∙ ap (λ (l : List ℕ). l ++ table s.book.program) logged

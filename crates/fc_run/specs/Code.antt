@@ -7,7 +7,7 @@ use Rattle.edit_commands.specs.declared.types.ScriptFault.{ScriptFault}
 use Rattle.edit_commands.specs.declared.types.ScriptFault.TheVariants as script
 use Rattle.edit_commands.specs.LineByLine.{AllLines, StopsAt}
 use Rattle.edit_commands.specs.Scripts.{Script, TooManyLines, Within}
-use Rattle.session.specs.Sessions.{SessionValue}
+use Rattle.session.specs.declared.sessions.Session.{Session}
 use Rattle.command_frame.specs.declared.refusal.Refusal.TheVariants.{Lines, Scrambles, Firings}
 use Rattle.command_frame.specs.declared.stop.Stop.{Stop}
 use Rattle.command_frame.specs.declared.stop.Stop.TheVariants as stop
@@ -34,7 +34,7 @@ IsRefused (Within (StopsAt at fault)) cause = cause ≡ Plainly (line_refusal at
 IsRefused (Within (AllLines lines)) cause = ⊥
 
 -- what a session gives at its end: its text with what is asked for behind it, its book and its parts
-abbrev pub ended_of : RunOptions → SessionValue → AnswerValue
+abbrev pub ended_of : RunOptions → Session → AnswerValue
 ended_of options s =
-    showing (run_text options (unfolding_of s.book.program) (entries_of s.book.log) (core_of s.book.core) s.text)
-    (ledger_of s.book) s.parts
+    showing (run_text options (unfolding_of s.book.program) (entries_of s.book.log) (core_of s.book.core) s.text.items)
+    (ledger_of s.book) s.parts.items

@@ -7,7 +7,7 @@ use Rattle.firing_core.specs.Entries.{EntryValue}
 use Rattle.edit_commands.specs.LineByLine.{AllLines, StopsAt, AreSaid}
 use Rattle.edit_commands.specs.Scripts.{ScriptLine, ScriptLineFault, OfLine, OfScrambles, OfFirings, CommandValue, IsCommand}
 use Rattle.edit_commands.specs.Scripts.{Script, TooManyLines, Within, script_of}
-use Rattle.report.specs.Logs.{log_text}
+use Rattle.log_lines.specs.LogTexts.{log_text}
 use Rattle.session.specs.ScriptRuns.{ScriptRun}
 use Rattle.command_frame.specs.declared.refusal.Refusal.{Refusal}
 use Rattle.command_frame.specs.declared.refusal.Refusal.TheVariants.{Lines, Scrambles, Firings}

@@ -3,7 +3,7 @@
 ghost use Rattle.fc_run.specs.Promises.{RunOwes};
 
 use command_frame::inputs_are_read;
-use edit_commands::{readings_agree, scripts_are_judged, scripts_have_commands};
+use edit_commands::{entries_agree, scripts_are_judged, scripts_have_commands};
 use session::{one_script_run, scripts_keep_yes, some_script_run};
 
 /// `run` has one answer to each input where the logs agree. What is run keeps a yes: where the last verdict that was
@@ -13,7 +13,7 @@ pub fn run_owes()
     ensures { RunOwes }
 {
     inputs_are_read();
-    readings_agree();
+    entries_agree();
     scripts_have_commands();
     scripts_are_judged();
     one_script_run();

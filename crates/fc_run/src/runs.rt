@@ -2,7 +2,7 @@
 ghost use Rattle.std.specs.Prelude.{◌≡◌, ◌≤◌, ◌++◌, IfErr, IfOk, OnOk, length, map};
 ghost use Rattle.firing_core.specs.CoreViews.{core_of, program_of};
 ghost use Rattle.firing_core.specs.Entries.{entries_of};
-ghost use Rattle.report.specs.Logs.{log_text};
+ghost use Rattle.log_lines.specs.LogTexts.{log_text};
 ghost use Rattle.command_frame.specs.Causes.{Accepted, Refused};
 ghost use Rattle.command_frame.specs.Code.{value_of};
 ghost use Rattle.command_frame.specs.Sections.{AreWithin, WithThree};
@@ -19,7 +19,7 @@ use edit_commands::scripts_are_judged;
 use export_table::Gate;
 use fc_values::Memory;
 use firing_core::Book;
-use report::entries;
+use log_lines::entries;
 use session::{Pool, Session, run_script};
 use std::alloc::Global;
 use std::sync::{Arc, Wait};
@@ -60,7 +60,11 @@ fn write_table(
 fn ended(alloc: Global, options: RunOptions, session: Session) -> Result<Answer, Memory>
     ensures { IfOk result (λ a. value_of a ≡ ended_of options session) }
 {
-    let (book, parts, mut text) = session.finish();
+    let Session {
+        book,
+        parts,
+        mut text,
+    } = session;
     write_log(alloc, options, &mut text, &book)?;
     write_table(alloc, options, &mut text, &book)?;
     // Its clause: the core is of the book's program.
@@ -89,7 +93,7 @@ fn of_texts<W: Threads + Wait + Sync, G: Gate + Sync>(
     let core = start(alloc, &shared, scene)?;
     let lines = read_lines(alloc, &shared, &core, script)?;
     scripts_are_judged();
-    let session = run_script(alloc, shared, core, &lines, pool)?;
+    let session = run_script(alloc, shared, core, lines, pool)?;
     Ok(ended(alloc, options, session)?)
 }
 

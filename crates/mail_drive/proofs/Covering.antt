@@ -7,7 +7,7 @@ use Rattle.fc_values.proofs.Rising.{rises_apart, rises_tail}
 use Rattle.topology.specs.Networks.{Network, IsNetwork, numbers, near}
 use Rattle.topology.specs.Nearby.{neighbour_numbers}
 use Rattle.topology.proofs.Lemmas.{near_rises, near_none}
-use Rattle.scramble.specs.Words.{Words, next}
+use Rattle.scenarios.specs.Words.{Words, next}
 use Rattle.message_links.specs.MailCores.{MailEntryValue, MailBegin, MailEnd, MailIdle, MailDeliver, MailAgain, MailLose, reaches, rest_of, without, posted}
 use Rattle.message_links.specs.MailRounds.{Posts, posts_after, posts_along, HasMailFiring, EndsOwnBegin, oldest_post, Brings, CoversMail, HasMailRounds}
 use Rattle.message_links.proofs.Along.{along_more}

@@ -1,7 +1,7 @@
 -- Entries that are put behind a log, part by part.
 use Rattle.std.proofs.Common.{◌≡◌, ℕ, zero, suc, ◌+◌, List, [], ◌∷◌, ◌++◌, length, drop, refl, sym, ◌∙◌, ap, arith, append_assoc, append-nil}
 use Rattle.topology.specs.Networks.{Network, numbers}
-use Rattle.scramble.specs.Words.{Words}
+use Rattle.scenarios.specs.Words.{Words}
 use Rattle.message_links.specs.MailCores.{MailEntryValue}
 use Rattle.message_links.specs.declared.entries.MailEntry.{MailEntry}
 use Rattle.message_links.specs.MailEntries.{mail_entries}

@@ -14,7 +14,7 @@ use Rattle.firing_core.specs.Cores.{Core, Step, begun, copy_of}
 use Rattle.firing_core.specs.Replays.{fault_of, end_fault}
 use Rattle.firing_core.specs.Laws.{StepsKeepGood, CopiesFit, FaultlessStep}
 use Rattle.firing_core.proofs.Maps.{put_same}
-use Rattle.scramble.specs.Words.{Words, next}
+use Rattle.scenarios.specs.Words.{Words, next}
 use Rattle.message_links.specs.MailCores.{Reaches, reaches, Message, Pairs, put_pair, MailCore, MailEntryValue, MailBegin, MailEnd, MailDeliver, MailAgain, MailLose, posted, sees, with_core, without, MailEnds, Hears, Loses, MailStep, MailRun}
 use Rattle.message_links.specs.MailRounds.{posts_of}
 use Rattle.message_links.proofs.GoodMails.{IsMailGood, start_good, step_good}

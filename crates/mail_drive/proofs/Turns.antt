@@ -6,7 +6,7 @@ use Rattle.fc_values.specs.Types.{Declarations}
 use Rattle.fc_values.specs.Fields.{is_in}
 use Rattle.topology.specs.Networks.{Network, Edge, LinksFit, Lives, numbers, near, near_in}
 use Rattle.topology.specs.Nearby.{neighbour_numbers}
-use Rattle.scramble.specs.Words.{Words, next}
+use Rattle.scenarios.specs.Words.{Words, next}
 use Rattle.message_links.specs.MailCores.{Reaches, MailEntryValue, MailBegin, MailEnd, MailIdle, MailDeliver, MailAgain, MailLose}
 use Rattle.message_links.specs.MailRounds.{Posts, posts_along, HasMailEnd, HasMailFiring, HasMailRounds}
 use Rattle.mail_drive.specs.Drives.{firings, brought, brings_from, brings, round, driven}

@@ -3,7 +3,7 @@
 -- delivered once.
 use Rattle.std.specs.Prelude.{ℕ, zero, suc, ◌≡◌, ◌%◌, ◌==◌, if◌then◌else◌, List, [], ◌∷◌, ◌++◌}
 use Rattle.topology.specs.Networks.{Network, numbers, near}
-use Rattle.scramble.specs.Words.{Words, next}
+use Rattle.scenarios.specs.Words.{Words, next}
 use Rattle.message_links.specs.MailCores.{MailEntryValue, MailBegin, MailEnd, MailDeliver, MailAgain, MailLose}
 use Rattle.message_links.specs.declared.entries.MailEntry.{MailEntry}
 use Rattle.message_links.specs.MailEntries.{mail_entries}

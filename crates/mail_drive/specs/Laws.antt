@@ -2,7 +2,7 @@
 use Rattle.std.specs.Prelude.{ℕ, ◌≡◌, ◌≤◌, [], length, None}
 use Rattle.fc_nodes.specs.Program.{Program, unfolding_of, IsProgram}
 use Rattle.topology.specs.Networks.{Network, IsNetwork}
-use Rattle.scramble.specs.Words.{Words}
+use Rattle.scenarios.specs.Words.{Words}
 use Rattle.message_links.specs.MailCores.{MailCore, MailRun, IsMailStart}
 use Rattle.message_links.specs.MailRounds.{Posts, posts_along, CoversMail, HasMailRounds}
 use Rattle.mail_drive.specs.Drives.{round, driven}

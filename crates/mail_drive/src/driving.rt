@@ -2,14 +2,14 @@
 
 ghost use Rattle.std.specs.Prelude.{◌≡◌, ◌++◌, IfOk, OnOk};
 ghost use Rattle.topology.specs.Networks.{numbers, near as near_of};
-ghost use Rattle.scramble.specs.Words.{next, stream_of};
+ghost use Rattle.scenarios.specs.Words.{next, stream_of};
 ghost use Rattle.message_links.specs.MailEntries.{mail_entries};
 ghost use Rattle.mail_drive.specs.Drives.{brought, firings, twice, Appends, brings_from, brings, driven};
 
 use fc_values::Memory;
 use message_links::MailEntry;
 use rand_chacha::ChaCha8Rng;
-use scramble::{generator, next_word};
+use scenarios::{generator, next_word};
 use std::alloc::Global;
 use topology::Network;
 

@@ -1,14 +1,13 @@
 -- A mail log, read line by line.
 use Rattle.std.proofs.Common.{ℕ, ◌≡◌, ◌+◌, Bool, true, false, ◌==◌, List, [], ◌∷◌, ◌++◌, length, refl, sym, ap, ◌∙◌, arith, Option, Some, None}
 use Rattle.std.specs.Prelude.{option_map}
-use Rattle.std.proofs.lemmas.List.{map-append, length-map}
 use Rattle.message_links.specs.MailCores.{MailEntryValue}
 use Rattle.message_links.specs.declared.entries.MailEntry.{MailEntry}
-use Rattle.message_links.specs.MailEntries.{mail_entry, mail_entries}
+use Rattle.message_links.specs.MailEntries.{mail_entry}
 use Rattle.edit_commands.specs.LineByLine.{Judgement, WhereAccepted, Does, StopsAt}
 use Rattle.edit_commands.proofs.CutLines.{IsCut}
 use Rattle.edit_commands.proofs.ReadLines as lines
-use Rattle.mail_lines.specs.MailLines.{mail_line, mail_line_judged, mail_log, IsMailLog, numbered}
+use Rattle.mail_lines.specs.MailLines.{mail_line, mail_line_judged, mail_log, IsMailLog}
 
 abbrev judge : Unit {0} → List ℕ → Judgement (Unit {0}) MailEntryValue
 judge s line = mail_line_judged (mail_line line)
@@ -53,22 +52,6 @@ module _ (text : List ℕ) (number : ℕ) (rest front back line : List ℕ) (es 
 pub all_read : (text : List ℕ) (number : ℕ) (rest : List ℕ) (es : List (ℕ × MailEntryValue)) (t : Bool) → IsReadTo text number rest es → t ≡ (length rest == 0) → t ≡ true → IsMailLog text es
 unfolding mail_log
 all_read text number rest es t r is end = lines.all_read judge stay Says Any Stays tt text tt number rest es t r is end
-
--- one more entry
-numbered_more : (ks : List ℕ) (es : List MailEntryValue) (k : ℕ) (e : MailEntryValue) → length ks ≡ length es → numbered (ks ++ k ∷ []) (es ++ e ∷ []) ≡ numbered ks es ++ (k, e) ∷ []
-numbered_more [] [] k e h = refl
-numbered_more [] (f ∷ fs) k e h = absurd (omega arith)
-numbered_more (j ∷ js) [] k e h = absurd (omega arith)
-numbered_more (j ∷ js) (f ∷ fs) k e h = ap (λ xs. (j, f) ∷ xs) (numbered_more js fs k e (omega arith))
-
--- and in code
-pub mailed_more : (ks lines : List ℕ) (es entries : List MailEntry) (k : ℕ) (e : MailEntry) → length ks ≡ length es → lines ≡ ks ++ k ∷ [] → entries ≡ es ++ e ∷ []
-    → numbered lines (mail_entries entries) ≡ numbered ks (mail_entries es) ++ (k, mail_entry e) ∷ []
-mailed_more ks lines es entries k e long l m =
-    ap (λ xs. numbered xs (mail_entries entries)) l
-    ∙ ap (λ xs. numbered (ks ++ k ∷ []) (mail_entries xs)) m
-    ∙ ap (numbered (ks ++ k ∷ [])) (map-append mail_entry es (e ∷ []))
-    ∙ numbered_more ks (mail_entries es) k (mail_entry e) (omega (arith, long, length-map es mail_entry))
 
 -- the entry that was read
 pub entry_said : (o : Option MailEntry) (e : MailEntry) (p : Option MailEntryValue) → option_map mail_entry o ≡ p → o ≡ Some e → p ≡ Some (mail_entry e)

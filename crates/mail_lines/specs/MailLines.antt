@@ -1,17 +1,15 @@
 -- The lines of a mail log.
-use Rattle.std.specs.Prelude.{ℕ, ◌≡◌, ◌==◌, if◌then◌else◌, List, [], ◌∷◌, Option, Some, None, option_map, codes}
+use Rattle.std.specs.Prelude.{ℕ, ◌≡◌, ◌==◌, if◌then◌else◌, List, [], ◌∷◌, zip, Option, Some, None, option_map, codes}
 use Rattle.std.specs.Str.{bytes_eq}
 use Rattle.fc_values.specs.Numbers.{number_of}
 use Rattle.fc_io.specs.Lines.{lines_of}
 use Rattle.edit_commands.specs.Lines.{words_of}
 use Rattle.edit_commands.specs.EditLines.{with_two}
-use Rattle.edit_commands.specs.LineByLine.{Judgement, Accepted, Refused, Lines, StopsAt, lines_from, SaidBy}
+use Rattle.edit_commands.specs.LineByLine.{Judgement, Accepted, Refused, Lines, lines_from, SaidBy}
 use Rattle.message_links.specs.MailCores.{MailEntryValue, MailBegin, MailEnd, MailIdle}
 use Rattle.message_links.specs.MailCores.{MailDeliver, MailAgain, MailLose}
 use Rattle.message_links.specs.MailEntries.{mail_entries}
 use Rattle.mail_lines.specs.declared.logs.MailLines.{MailLines}
-use Rattle.mail_lines.specs.declared.logs.MailLineFault.{MailLineFault}
-use Rattle.mail_lines.specs.declared.logs.MailLineFault.TheVariants as line_fault
 
 -- the devices that two words number
 abbrev pub two_words : List ℕ → List ℕ → Option (ℕ × ℕ)
@@ -62,17 +60,6 @@ mail_log text = lines_from (λ (s : Unit {0}) line. mail_line_judged (mail_line 
 abbrev pub IsMailLog : List ℕ → List (ℕ × MailEntryValue) → Type 0
 IsMailLog text es = SaidBy (λ (l e : MailEntryValue). e ≡ l) es (mail_log text)
 
--- entries, each with the number of its line
-abbrev pub numbered : List ℕ → List MailEntryValue → List (ℕ × MailEntryValue)
-numbered [] es = []
-numbered (k ∷ ks) [] = []
-numbered (k ∷ ks) (e ∷ es) = (k, e) ∷ numbered ks es
-
--- those of a mail log of the code
+-- those of a mail log of the code: its entries beside the numbers of their lines
 abbrev pub mailed : MailLines → List (ℕ × MailEntryValue)
-mailed l = numbered l.lines.items (mail_entries l.entries.items)
-
--- the fault of a mail log: its first line that is no entry. Want of memory is always allowed
-abbrev pub RefusesMailLog : List ℕ → MailLineFault → Type 0
-RefusesMailLog text (line_fault.Form k) = mail_log text ≡ StopsAt k tt
-RefusesMailLog text line_fault.Memory = Unit {0}
+mailed l = zip l.lines.items (mail_entries l.entries.items)

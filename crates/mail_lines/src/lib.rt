@@ -3,4 +3,4 @@
 
 mod logs;
 
-pub use logs::{MailLineFault, MailLines, read_mail};
+pub use logs::{MailLines, read_mail};

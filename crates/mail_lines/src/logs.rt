@@ -2,64 +2,25 @@
 
 ghost use Rattle.std.specs.Prelude.{◌≡◌, ◌<◌, ◌^◌, length, map, option_map, IfOk, IfErr};
 ghost use Rattle.edit_commands.specs.Code.{texts};
+ghost use Rattle.edit_commands.specs.LineByLine.{StopsAt};
 ghost use Rattle.edit_commands.specs.Lines.{words_of};
 ghost use Rattle.fc_values.specs.Numbers.{number_of};
 ghost use Rattle.message_links.specs.MailCores.{MailBegin, MailEnd};
 ghost use Rattle.message_links.specs.MailEntries.{mail_entry};
 ghost use Rattle.mail_lines.specs.MailLines.{mail_line, message_line, two_words, idle};
-ghost use Rattle.mail_lines.specs.MailLines.{IsMailLog, RefusesMailLog, mailed};
+ghost use Rattle.mail_lines.specs.MailLines.{IsMailLog, mail_log, mailed};
 
 use edit_commands::line_words;
 use fc_io::{first_line, line_text};
 use fc_values::{Memory, number};
 use message_links::MailEntry;
-use std::alloc::{AllocError, AllocFailed, Global};
+use std::alloc::Global;
 
 /// The entries of a mail log, and the numbers of their lines.
 #[derive(Drop)]
 pub struct MailLines {
     pub lines: Vec<u32>,
     pub entries: Vec<MailEntry>,
-}
-
-/// The number of the first line that is no entry, or want of memory.
-#[derive(Clone, Copy, Debug, PartialEq, Eq)]
-pub enum MailLineFault {
-    Form(u32),
-    Memory,
-}
-
-impl From<Memory> for MailLineFault {
-    ghost use Rattle.std.specs.Prelude.{◌≡◌};
-    ghost use Rattle.mail_lines.specs.declared.logs.MailLineFault.TheVariants as line_fault;
-
-    ghost from_gives = { λ _ e. e ≡ line_fault.Memory };
-
-    fn from(_: Memory) -> Self {
-        MailLineFault::Memory
-    }
-}
-
-impl From<AllocError> for MailLineFault {
-    ghost use Rattle.std.specs.Prelude.{◌≡◌};
-    ghost use Rattle.mail_lines.specs.declared.logs.MailLineFault.TheVariants as line_fault;
-
-    ghost from_gives = { λ _ e. e ≡ line_fault.Memory };
-
-    fn from(_: AllocError) -> Self {
-        MailLineFault::Memory
-    }
-}
-
-impl<T: Drop> From<AllocFailed<T>> for MailLineFault {
-    ghost use Rattle.std.specs.Prelude.{◌≡◌};
-    ghost use Rattle.mail_lines.specs.declared.logs.MailLineFault.TheVariants as line_fault;
-
-    ghost from_gives = { λ _ e. e ≡ line_fault.Memory };
-
-    fn from(_: AllocFailed<T>) -> Self {
-        MailLineFault::Memory
-    }
 }
 
 // The two devices that words number.
@@ -148,12 +109,12 @@ fn idle(more: &[u8]) -> Option<MailEntry>
     }
 }
 
-/// The entries of a mail log with the numbers of their lines. `Form` is the first line that is no entry.
-pub fn read_mail(alloc: Global, text: &[u8]) -> Result<MailLines, MailLineFault>
+/// The entries of a mail log with the numbers of their lines; or the number of the first line that is no entry.
+pub fn read_mail(alloc: Global, text: &[u8]) -> Result<Result<MailLines, u32>, Memory>
     requires short { length text.now < 2 ^ 32 }
-    ensures log { IfOk result (λ l. IsMailLog text.now (mailed l)) }
-    ensures many { IfOk result (λ l. length l.lines.items ≡ length l.entries.items) }
-    ensures refused { IfErr result (RefusesMailLog text.now) }
+    ensures log { IfOk result (λ r. IfOk r (λ l. IsMailLog text.now (mailed l))) }
+    ensures many { IfOk result (λ r. IfOk r (λ l. length l.lines.items ≡ length l.entries.items)) }
+    ensures refused { IfOk result (λ r. IfErr r (λ k. mail_log text.now ≡ StopsAt k tt)) }
 {
     let mut lines = Vec::new(alloc);
     let mut entries = Vec::new(alloc);
@@ -165,12 +126,12 @@ pub fn read_mail(alloc: Global, text: &[u8]) -> Result<MailLines, MailLineFault>
         number += 1;
         if !line.is_empty() {
             let Some(entry) = read_line(alloc, line)? else {
-                return Err(MailLineFault::Form(number));
+                return Ok(Err(number));
             };
             lines.push(number)?;
             entries.push(entry)?;
         }
         rest = back;
     }
-    Ok(MailLines { lines, entries })
+    Ok(Ok(MailLines { lines, entries }))
 }

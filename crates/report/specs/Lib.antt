@@ -1,5 +1,4 @@
 pub mod Texts
 pub mod Verdicts
-pub mod Logs
 pub mod Facts
 pub mod Settling

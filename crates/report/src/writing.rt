@@ -36,11 +36,7 @@ pub(crate) fn write_value(alloc: Global, out: &mut Vec<u8>, value: &Local) -> Re
 }
 
 /// Appends a local value after a space.
-pub(crate) fn write_after_space(
-    alloc: Global,
-    out: &mut Vec<u8>,
-    value: &Local,
-) -> Result<(), Memory>
+pub fn write_after_space(alloc: Global, out: &mut Vec<u8>, value: &Local) -> Result<(), Memory>
     ensures { OnOk result (out.new.items ≡ out.old.items ++ after_space (local_of value.now)) }
 {
     out.push(b' ')?;

@@ -13,8 +13,8 @@ use Rattle.firing_core.specs.Laws.{StepsKeepGood, RunsKeepGood, LogsLeadToOne}
 use Rattle.firing_core.specs.Stretches.{begins, is_begin, IsMixed, NoneFlies, MixStretch}
 use Rattle.edit_commands.specs.Agreement.{SameEdit, SameEntry, SameEntries, SameCommand, SameCommands, StepsAgree}
 use Rattle.edit_commands.specs.Scripts.{CommandValue, RunCommand, EditCommand, ScrambleCommand, ShowCommand, MixCommand}
-use Rattle.scramble.specs.Rubbish.{AreDrawn, after_export}
-use Rattle.scramble.specs.Words.{Words, stream_of}
+use Rattle.scenarios.specs.Rubbish.{AreDrawn, after_export}
+use Rattle.scenarios.specs.Words.{Words, stream_of}
 use Rattle.report.specs.Verdicts.{verdict_text}
 use Rattle.session.specs.Laws.{OneScriptRun}
 use Rattle.session.specs.ScriptRuns.{Added, DoesLine, DoesLines, RunsRounds, MixesEdit, MakesEdit, Scrambles, ShowsCore, changes_devices, shown_after, poke}

@@ -16,8 +16,8 @@ use Rattle.firing_core.specs.Cores.{Core, Run}
 use Rattle.firing_core.specs.CoreViews.{CoreValue, core_of}
 use Rattle.firing_core.specs.Entries.{EntryValue, PokeEdit, EditEntry, entries_of}
 use Rattle.firing_core.specs.Laws.{RunsCut}
-use Rattle.scramble.specs.Words.{Words}
-use Rattle.scramble.specs.Rubbish.{AreDrawn, of_device, of_devices}
+use Rattle.scenarios.specs.Words.{Words}
+use Rattle.scenarios.specs.Rubbish.{AreDrawn, of_device, of_devices}
 use Rattle.session.specs.Conditions.{AllowsEdit}
 use Rattle.session.specs.Growing.{GrewBy, MayPoke}
 use Rattle.session.specs.ScriptRuns.{poke}

@@ -4,36 +4,34 @@ use Rattle.std.proofs.lemmas.List.{length-map}
 use Rattle.std.proofs.lemmas.Grind.{flat_map-append}
 use Rattle.fc_nodes.specs.declared.verdicts.Verdict.{Verdict}
 use Rattle.fc_nodes.specs.Program.{Program, unfolding_of}
-use Rattle.firing_core.specs.Books.{BookValue}
 use Rattle.firing_core.specs.CoreViews.{CoreValue, core_of}
 use Rattle.firing_core.specs.Entries.{entry_of, entries_of}
 use Rattle.report.specs.Verdicts.{verdict_text}
 use Rattle.edit_commands.specs.Scripts.{CommandValue}
 use Rattle.session.specs.Shown.{shown_text, all_shown, verdict_in}
 use Rattle.session.specs.ScriptRuns.{DoesLine, DoesLines}
-use Rattle.session.specs.Sessions.{SessionValue, Opens, AfterLine, HasRun}
+use Rattle.session.specs.declared.sessions.Session.{Session}
+use Rattle.session.specs.Sessions.{AfterLine, HasRun}
 use Rattle.session.proofs.Lines.{one_more}
 
 module _ (P : Program) (start : CoreValue) where
   -- before the first line
-  pub opened : (s : SessionValue) (book : BookValue) (v : Verdict) → Opens book v s → v ≡ verdict_in (unfolding_of P) (core_of start) → book.program ≡ P
-      → core_of book.start ≡ core_of start → book.log ≡ [] → book.core ≡ start → HasRun P start [] s
-  opened s book v o w p q e c =
-      let log : entries_of s.book.log ≡ [] = ap (λ (b : BookValue). entries_of b.log) o.book ∙ ap entries_of e in
-      let core : core_of s.book.core ≡ core_of start = ap (λ (b : BookValue). core_of b.core) o.book ∙ ap core_of c in
-      let none = o.none in
+  pub opened : (s : Session) (v : Verdict) → v ≡ verdict_in (unfolding_of P) (core_of start) → s.text.items ≡ verdict_text v → s.parts.items ≡ []
+      → s.book.program ≡ P → core_of s.book.start ≡ core_of start → s.book.log ≡ [] → s.book.core ≡ start → HasRun P start [] s
+  opened s v w says none p q e c =
+      let log : entries_of s.book.log ≡ [] = ap entries_of e in
       record {
-        program = ap (λ (b : BookValue). b.program) o.book ∙ p;
-        start = ap (λ (b : BookValue). core_of b.start) o.book ∙ q;
+        program = p;
+        start = q;
         run = record {
           shown = [];
-          does = (cc, core);
-          says = o.says ∙ ap verdict_text w ∙ sym (append-nil (verdict_text (verdict_in (unfolding_of P) (core_of start))));
+          does = (cc, ap core_of c);
+          says = says ∙ ap verdict_text w ∙ sym (append-nil (verdict_text (verdict_in (unfolding_of P) (core_of start))));
         };
       }
 
   -- one more line
-  pub run_on : (s t : SessionValue) (lines : List (ℕ × CommandValue)) (line : ℕ × CommandValue) → HasRun P start lines s → AfterLine line s t
+  pub run_on : (s t : Session) (lines : List (ℕ × CommandValue)) (line : ℕ × CommandValue) → HasRun P start lines s → AfterLine line s t
       → HasRun P start (lines ++ line ∷ []) t
   run_on s t lines line h a =
       let at : length s.book.log ≡ 0 + length (entries_of s.book.log) = omega (arith, length-map s.book.log entry_of) in

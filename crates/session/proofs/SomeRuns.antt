@@ -12,8 +12,8 @@ use Rattle.firing_core.specs.Stretches.{MixStretch}
 use Rattle.round_count.specs.Laws.{RoundsFollow}
 use Rattle.edit_commands.specs.JudgedCommands.{AreJudged, IsLeftBy, after_command}
 use Rattle.edit_commands.specs.Scripts.{Progress, CommandValue, RunCommand, EditCommand, ScrambleCommand, ShowCommand, MixCommand, at_start}
-use Rattle.scramble.specs.Rubbish.{SomeRubbish}
-use Rattle.scramble.specs.Words.{stream_of}
+use Rattle.scenarios.specs.Rubbish.{SomeRubbish}
+use Rattle.scenarios.specs.Words.{stream_of}
 use Rattle.session.specs.Conditions.{Allows, AllowsMix}
 use Rattle.session.specs.Growing.{MayPoke}
 use Rattle.session.specs.Laws.{ScriptRunsLead, SomeScriptRun}

@@ -8,8 +8,8 @@ use Rattle.firing_core.specs.Books.{BookValue}
 use Rattle.firing_core.specs.Cores.{Run}
 use Rattle.firing_core.specs.CoreViews.{core_of}
 use Rattle.firing_core.specs.Entries.{EntryValue, entries_of}
-use Rattle.scramble.specs.Rubbish.{AreDrawn}
-use Rattle.scramble.specs.Words.{stream_of}
+use Rattle.scenarios.specs.Rubbish.{AreDrawn}
+use Rattle.scenarios.specs.Words.{stream_of}
 use Rattle.session.specs.ScriptRuns.{poke}
 
 -- a book with a stretch more in its log

@@ -9,8 +9,8 @@ use Rattle.firing_core.specs.Entries.{EntryValue, EditEntry}
 use Rattle.firing_core.specs.Cores.{Core, Run}
 use Rattle.firing_core.specs.Stretches.{RunStretch, MixStretch, IsMixed}
 use Rattle.edit_commands.specs.Scripts.{CommandValue, RunCommand, EditCommand, ScrambleCommand, ShowCommand, MixCommand}
-use Rattle.scramble.specs.Words.{stream_of}
-use Rattle.scramble.specs.Rubbish.{AreDrawn}
+use Rattle.scenarios.specs.Words.{stream_of}
+use Rattle.scenarios.specs.Rubbish.{AreDrawn}
 use Rattle.session.specs.Shown.{Shown, ShowsValues, ShowsVerdict, script_text, verdict_in}
 
 -- what lines add: a stretch of the log, its parts, and what is shown

@@ -2,10 +2,10 @@
 
 ghost use Rattle.session.specs.Laws.{LinesCut, OneScriptRun, ScriptRunsLead, SomeScriptRun};
 
-use edit_commands::readings_agree;
+use edit_commands::entries_agree;
 use firing_core::{faultless_steps, logs_decide, runs_cut, steps_keep_good};
 use round_count::rounds_grow;
-use scramble::some_rubbish;
+use scenarios::some_rubbish;
 
 /// Lines may be cut anywhere: they do what the first do, and then what the rest do from where those lead.
 pub fn lines_cut()
@@ -36,6 +36,6 @@ pub fn one_script_run()
     ensures { OneScriptRun }
 {
     logs_decide();
-    readings_agree();
+    entries_agree();
     steps_keep_good();
 }

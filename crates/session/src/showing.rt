@@ -1,57 +1,52 @@
 //! What lines show.
 
-ghost use Rattle.std.specs.Prelude.{ℕ, ◌≡◌, ◌++◌, IfOk, OnOk};
+ghost use Rattle.std.specs.Prelude.{ℕ, ◌≡◌, ◌++◌, ◌∷◌, [], IfOk, OnOk, if◌then◌else◌};
 ghost use Rattle.fc_nodes.specs.Program.{unfolding_of};
 ghost use Rattle.firing_core.specs.CoreViews.{core_of};
 ghost use Rattle.firing_core.specs.Entries.{edit_of};
-ghost use Rattle.session.specs.Shown.{ShowsValues, all_shown, shown_text, verdict_in};
-ghost use Rattle.session.specs.ScriptRuns.{changes_devices, shown_after};
+ghost use Rattle.session.specs.Shown.{ShowsValues, ShowsVerdict, all_shown, shown_text, verdict_in};
+ghost use Rattle.session.specs.ScriptRuns.{changes_devices};
 
 use fc_nodes::Verdict;
 use fc_values::Memory;
-use firing_core::{Book, Core, Edit};
+use firing_core::{Core, Edit};
 use report::{values, verdict as write_verdict};
 use round_bound::Analysis;
 use std::alloc::Global;
 
-/// The verdict on a core's program for its network.
-pub(crate) fn verdict_on(alloc: Global, core: &Core) -> Result<Verdict, Memory>
-    ensures { IfOk result (λ v. v ≡ verdict_in (unfolding_of core.now.program) (core_of core.now)) }
+/// The verdict on a program for a core's network.
+pub(crate) fn verdict_on(
+    alloc: Global,
+    analysis: &Analysis<'_>,
+    core: &Core,
+) -> Result<Verdict, Memory>
+    ensures { IfOk result (λ v. v ≡ verdict_in (unfolding_of analysis.now) (core_of core.now)) }
 {
-    // Their clauses: the nodes are a program, and the network has devices.
-    let program = core.program();
-    let _size = program.size();
+    // Its clause: the network has devices.
     let devices = core.net().devices().len() as u32;
-    Analysis::new(alloc, program)?.verdict(alloc, devices)
+    analysis.verdict(alloc, devices)
 }
 
-// Whether a line with this edit shows the verdict.
-fn changes_devices(edit: &Edit) -> bool
+/// Whether a line with this edit shows the verdict.
+pub(crate) fn changes_devices(edit: &Edit) -> bool
     ensures { result ≡ changes_devices (edit_of edit.now) }
 {
     matches!(edit, Edit::Join(_) | Edit::Leave(_))
 }
 
-/// The core to which a book's log has led: the one that lines show.
-pub(crate) fn last_core(book: &Book) -> &Core
-    ensures { result.now ≡ book.now.core }
-{
-    book.core()
-}
-
-/// Appends what a line with an edit shows of a book after it.
-pub(crate) fn show_edit(
+/// Appends the verdict on a program for a core's network, where it is shown.
+pub(crate) fn show_verdict(
     alloc: Global,
     text: &mut Vec<u8>,
-    edit: &Edit,
-    book: &Book,
+    shows: bool,
+    analysis: &Analysis<'_>,
+    core: &Core,
 ) -> Result<(), Memory>
-    ensures { OnOk result ((line : ℕ) → text.new.items ≡ text.old.items
-        ++ all_shown (shown_after (unfolding_of book.now.program) line (edit_of edit.now)
-        (core_of book.now.core))) }
+    ensures { OnOk result ((line : ℕ) → text.new.items ≡ text.old.items ++ all_shown (
+        if shows then ShowsVerdict line (verdict_in (unfolding_of analysis.now) (core_of core.now)) ∷ [] else [])) }
 {
-    if changes_devices(edit) {
-        let verdict = verdict_on(alloc, book.core())?;
+    if shows {
+        let verdict = verdict_on(alloc, analysis, core)?;
         write_verdict(alloc, text, &verdict)?;
     }
     Ok(())

@@ -6,7 +6,7 @@ use Rattle.firing_core.specs.CoreViews.{CoreValue}
 use Rattle.message_links.specs.MailEntries.{mail_entries}
 use Rattle.mail_book.specs.MailReplays.{FailsMailAt}
 use Rattle.mail_book.specs.MailViews.{mail_of, unfolded_of}
-use Rattle.scramble.specs.Words.{stream_of}
+use Rattle.scenarios.specs.Words.{stream_of}
 use Rattle.mail_drive.specs.Drives.{driven}
 use Rattle.net_json.specs.SceneCode.{value_of_scene}
 use Rattle.report.specs.Verdicts.{verdict_text}

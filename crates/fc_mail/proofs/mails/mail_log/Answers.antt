@@ -1,5 +1,6 @@
 use Rattle.std.proofs.Common.{◌≡◌, ◌∙◌, ℕ, List, ◌++◌, length, sym, ap, subst}
 use Rattle.std.proofs.lemmas.List.{length-map}
+use Rattle.std.proofs.lemmas.Slice.Zip.{seconds-zip}
 use Rattle.fc_nodes.specs.Program.{unfolding_of}
 use Rattle.firing_core.specs.CoreViews.{core_of}
 use Rattle.net_json.specs.SceneCode.{value_of_scene}
@@ -18,7 +19,7 @@ use Rattle.command_frame.proofs.Stopping.{stop_is, stops_map}
 use Rattle.command_frame.specs.Starts.{start_of}
 use Rattle.fc_mail.specs.Code.{IsFaultyMail, IsStoppedMail}
 use Rattle.fc_mail.specs.Mails.{Mails, mail_entries_in}
-use Rattle.fc_mail.proofs.Mailing.{numbered_entries, faulty_log, stopped_log, shown_log}
+use Rattle.fc_mail.proofs.Mailing.{faulty_log, stopped_log, shown_log}
 use Rattle.fc_mail.proofs.mails.mail_log.Goals as goal
 
 pub returns-in_err-log-clause-refused : goal.returns-in_err-log-clause-refused
@@ -45,7 +46,7 @@ returns-clause-writes c =
     let entries = mail_entries c.in_ok-log.log.entries.items in
     let es = mailed c.in_ok-log.log in
     let many : length c.in_ok-log.log.lines.items ≡ length entries = c.in_ok-log.ensures.many ∙ sym (length-map c.in_ok-log.log.entries.items mail_entry) in
-    let same : mail_entries_in es ≡ entries = numbered_entries c.in_ok-log.log.lines.items entries many in
+    let same : mail_entries_in es ≡ entries = seconds-zip c.in_ok-log.log.lines.items entries (sym many) in
     let made = c.in_ok-book.ensures.book in
     let shows = c.in_ok-show.ensures in
     let leads : MailRun U 0 start (mail_entries_in es) (mail_of book.mail) = subst (λ (l : List MailEntryValue). MailRun U 0 start l (mail_of book.mail)) (sym same) made.leads in

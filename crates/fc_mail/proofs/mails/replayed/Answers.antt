@@ -1,5 +1,6 @@
 use Rattle.std.proofs.Common.{◌≡◌, ◌∙◌, ℕ, List, length, sym, ap, subst}
 use Rattle.std.proofs.lemmas.List.{length-map}
+use Rattle.std.proofs.lemmas.Slice.Zip.{firsts-zip, seconds-zip}
 use Rattle.fc_nodes.specs.Program.{Program, Unfolding, unfolding_of}
 use Rattle.net_json.specs.SceneCode.{value_of_scene}
 use Rattle.message_links.specs.MailCores.{MailCore, MailEntryValue, MailRun}
@@ -11,7 +12,7 @@ use Rattle.command_frame.specs.declared.stop.Stop.{Stop}
 use Rattle.command_frame.specs.Stops.{StopsFor}
 use Rattle.command_frame.specs.Starts.{start_of}
 use Rattle.fc_mail.specs.Code.{IsMailed, IsStoppedMail, MailWithin, mail_stop}
-use Rattle.fc_mail.proofs.Mailing.{numbered_entries, numbered_lines, fails_within, stops}
+use Rattle.fc_mail.proofs.Mailing.{fails_within, stops}
 use Rattle.fc_mail.proofs.mails.replayed.Goals as goal
 
 pub returns-in-Ok-clause-book : goal.returns-in-Ok-clause-book
@@ -41,6 +42,6 @@ returns-clause-refused c =
     (subst (λ (s : Stop). StopsFor (IsStoppedMail (unfolding_of c.in_ok-program.program.value) (quiet (start_of (value_of_scene (unfolding_of c.in_ok-program.program.value) c.args.scene))) (mailed c.args.log)) s)
     (ap (λ (l : List ℕ). mail_stop l c.in-Err.fault) (sym c.deref.ensures.value) ∙ sym c.stop.ensures)
     (stops (unfolding_of c.in_ok-program.program.value) (quiet (start_of (value_of_scene (unfolding_of c.in_ok-program.program.value) c.args.scene))) (mailed c.args.log) c.args.log.lines.items c.in-Err.fault
-    (sym (numbered_lines c.args.log.lines.items entries many))
+    (sym (firsts-zip c.args.log.lines.items entries (sym many)))
     (subst (λ (es : List MailEntryValue). FailsMail (unfolding_of c.in_ok-program.program.value) (quiet (start_of (value_of_scene (unfolding_of c.in_ok-program.program.value) c.args.scene))) es c.in-Err.fault)
-    (sym (numbered_entries c.args.log.lines.items entries many)) fails)))
+    (sym (seconds-zip c.args.log.lines.items entries (sym many))) fails)))

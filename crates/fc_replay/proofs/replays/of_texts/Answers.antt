@@ -1,7 +1,7 @@
 use Rattle.std.proofs.Common.{ap, ◌∙◌, subst, sym}
 use Rattle.fc_nodes.specs.Program.{unfolding_of}
 use Rattle.net_json.specs.SceneCode.{value_of_scene}
-use Rattle.edit_commands.specs.Logs.{log_of, logged}
+use Rattle.log_lines.specs.Logs.{log_of, logged}
 use Rattle.command_frame.specs.Answers.{AnswerValue, showing}
 use Rattle.command_frame.specs.Causes.{Accepted, Refused}
 use Rattle.command_frame.specs.Ledgers.{ledger_of}

@@ -4,7 +4,7 @@ use Rattle.firing_core.specs.CoreViews.{core_of}
 use Rattle.firing_core.specs.Entries.{entries_of}
 use Rattle.firing_core.specs.Replays.{LogFits}
 use Rattle.net_json.specs.SceneCode.{value_of_scene}
-use Rattle.edit_commands.specs.Logs.{logged}
+use Rattle.log_lines.specs.Logs.{logged}
 use Rattle.command_frame.specs.Stops.{StopsFor}
 use Rattle.command_frame.specs.Starts.{start_of}
 use Rattle.command_frame.specs.Ledgers.{ledger_of}

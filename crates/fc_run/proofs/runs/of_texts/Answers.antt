@@ -1,4 +1,4 @@
-use Rattle.std.proofs.Common.{ap, map}
+use Rattle.std.proofs.Common.{map}
 use Rattle.fc_nodes.specs.Program.{Unfolding, unfolding_of}
 use Rattle.firing_core.specs.CoreViews.{core_of}
 use Rattle.net_json.specs.SceneCode.{value_of_scene}
@@ -40,8 +40,7 @@ pub run_script-requires-clause-judged : goal.run_script-requires-clause-judged
 run_script-requires-clause-judged g c κs within =
     lines_judged c.scripts_are_judged.ensures c.in_ok-shared.shared.value c.deref.result.now
     (core_of c.in_ok-core.core) c.args.script.now (map numbered c.in_ok-lines.lines.items)
-    (map numbered c.deref-2.result.now) c.deref.ensures (ap (map numbered) c.deref-2.ensures.value)
-    c.in_ok-lines.ensures.script c.in_ok-lines.ensures.fits
+    c.deref.ensures c.in_ok-lines.ensures.script c.in_ok-lines.ensures.fits
 
 pub returns-clause-ran : goal.returns-clause-ran
 returns-clause-ran g c =
@@ -49,6 +48,5 @@ returns-clause-ran g c =
     (λ (U : Unfolding). value_of_scene U c.in_ok-program.scene) c.in_ok-program.program c.in_ok-shared.shared.value
     c.deref.result.now c.in_ok-program.ensures.input c.in_ok-shared.ensures.ok c.deref.ensures
     c.in_ok-core.core c.in_ok-core.ensures.core
-    (map numbered c.in_ok-lines.lines.items) (map numbered c.deref-2.result.now)
-    (ap (map numbered) c.deref-2.ensures.value) c.in_ok-lines.ensures.script c.in_ok-session.session
+    (map numbered c.in_ok-lines.lines.items) c.in_ok-lines.ensures.script c.in_ok-session.session
     c.in_ok-session.ensures (value_of c.in_ok-ended.field-0) c.in_ok-ended.ensures

@@ -1,5 +1,5 @@
 use Rattle.std.proofs.Common.{◌≡◌, ℕ, ◌+◌, ◌++◌}
-use Rattle.scramble.specs.Words.{stream_of}
+use Rattle.scenarios.specs.Words.{stream_of}
 use Rattle.message_links.specs.MailEntries.{mail_entries}
 use Rattle.mail_drive.specs.Drives.{driven}
 use Rattle.mail_drive.proofs.driving.drive.Given as goal

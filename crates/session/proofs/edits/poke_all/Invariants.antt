@@ -1,6 +1,6 @@
 use Rattle.std.proofs.Common.{◌≡◌, length}
 use Rattle.std.specs.Vec.Iter.{into_iter_items, into_iter_len}
-use Rattle.scramble.specs.Rubbish.{of_devices}
+use Rattle.scenarios.specs.Rubbish.{of_devices}
 use Rattle.session.proofs.Pokes.{Poked}
 use Rattle.session.proofs.edits.poke_all.Given as goal
 

@@ -1,7 +1,7 @@
 use Rattle.std.proofs.Common.{◌∙◌}
 use Rattle.fc_nodes.specs.Program.{unfolding_of}
-use Rattle.scramble.specs.Rubbish.{of_devices}
-use Rattle.scramble.specs.Words.{stream_of}
+use Rattle.scenarios.specs.Rubbish.{of_devices}
+use Rattle.scenarios.specs.Words.{stream_of}
 use Rattle.session.proofs.Pokes.{rubbish_may, rubbish_of}
 use Rattle.session.proofs.edits.scramble.Goals as goal
 

@@ -7,6 +7,7 @@ use Rattle.session.proofs.scripts.start.Goals as goal
 
 pub returns : goal.returns
 returns c =
-    opened c.args.program.value c.args.core c.in_ok-session.session c.in-Ok.book c.in_ok-verdict.verdict c.in_ok-session.ensures
-    (c.in_ok-verdict.ensures ∙ ap (λ p. verdict_in (unfolding_of p) (core_of c.args.core)) (sym c.requires))
+    opened c.args.program.value c.args.core _ c.in_ok-verdict.verdict
+    (c.in_ok-verdict.ensures ∙ ap (λ p. verdict_in (unfolding_of p) (core_of c.args.core)) c.requires.analysed)
+    c.in_ok-text.ensures c.new-parts.ensures.items
     c.in-Ok.ensures.program c.in-Ok.ensures.start c.in-Ok.ensures.log c.in-Ok.ensures.core

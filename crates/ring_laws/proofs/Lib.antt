@@ -1,4 +1,0 @@
-mod Typing
-mod Neighbours
-mod Networks
-mod Verdicts

@@ -1,5 +1,0 @@
-use Rattle.ring_laws.proofs.Typing.{rings_are_typed}
-use Rattle.ring_laws.proofs.laws.rings_are_typed.Goals as goal
-
-pub returns : goal.returns
-returns c = rings_are_typed

@@ -1,2 +1,0 @@
-pub mod RingTerms
-pub mod Laws

@@ -1,5 +1,0 @@
-use Rattle.scramble.proofs.RingLists.{LinksSoFar}
-use Rattle.scramble.proofs.rings.links_of.Given as goal
-
-abbrev pub invariant-loop-first : goal.invariant-loop-first
-invariant-loop-first l = LinksSoFar l.count l.first l.links.items

@@ -1,5 +1,0 @@
-use Rattle.scramble.proofs.RingNetworks.{ring_network}
-use Rattle.scramble.proofs.rings.network.Goals as goal
-
-pub from_rising-requires : goal.from_rising-requires
-from_rising-requires c = let n = ring_network c.args.source c.args.count c.requires.least c.requires.most in rw (c.in_ok-declared.ensures, c.in_ok-devices.ensures, c.in_ok-links.ensures) n

@@ -1,5 +1,0 @@
-use Rattle.scramble.proofs.RingLists.{DevicesSoFar}
-use Rattle.scramble.proofs.rings.ring_of.Given as goal
-
-abbrev pub invariant-loop-id : goal.invariant-loop-id
-invariant-loop-id l = DevicesSoFar l.source l.count l.id l.devices.items

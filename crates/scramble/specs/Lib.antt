@@ -1,5 +1,0 @@
-pub mod Words
-pub mod Draws
-pub mod Drawing
-pub mod Rubbish
-pub mod Rings
