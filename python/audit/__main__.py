@@ -1,7 +1,6 @@
 """Writes docs/audit.md: what to read to believe what `fc` promises, from the definitions as they stand.
 
-It also looks for names with several meanings among these definitions. It takes from python/audit/double_names.txt those
-that have one meaning by now, and fails for those that aren't in it.
+It also looks for names with several meanings among these definitions, and fails where it finds one.
 """
 
 from __future__ import annotations
@@ -31,11 +30,9 @@ def main() -> int:
             print(f"{name}: {' '.join(files)}")
         return 0
     PAGE.write_text(page.write())
-    doubles.forget(found)
-    new = [name for name in found if name not in doubles.known()]
-    for name in new:
-        print(f"{name} has several meanings: {' '.join(found[name])}")
-    return 1 if new else 0
+    for name, files in found.items():
+        print(f"{name} has several meanings: {' '.join(files)}")
+    return 1 if found else 0
 
 
 if __name__ == "__main__":

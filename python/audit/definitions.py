@@ -94,9 +94,9 @@ def parts_of(lines: Iterable[tuple[int, str]], indent: int) -> Iterator[Part]:
     for number, line in lines:
         text = line[indent:]
         head = None if text.startswith((" ", "}", ")", *OTHERS)) else HEAD.match(text)
-        if text.startswith("--"):
+        if text.startswith("--") and not text.startswith("-- ----"):
             comment.append(text)
-        elif not text:
+        elif not text or text.startswith("--"):
             comment = []
         elif head and head["name"] != (part.name if part else ""):
             if part:
@@ -161,14 +161,14 @@ def code_parts(lines: Iterable[str]) -> Iterator[tuple[str, Part]]:
     rest = iter(enumerate(lines, 1))
     for number, line in rest:
         found = CODE.match(line)
-        if line.startswith(("///", "#[")):
+        if line.startswith(("//", "#[")):
             above.append(line)
             continue
         if found:
             taken = [line]
             while not taken[-1].startswith(("{", "}")) and not (taken[-1].endswith(";") and found["kind"] != "trait"):
                 taken.append(next(rest)[1])
-            comment = [it for it in above if it.startswith("///")]
+            comment = [it for it in above if it.startswith("//")]
             yield found["kind"], Part(found["name"], comment, number - len(above), number + len(taken) - 1, taken)
         above = []
 

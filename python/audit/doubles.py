@@ -1,14 +1,14 @@
-"""Names with several meanings among the definitions on which the clause of `fc` leans."""
+"""Names with several meanings among the definitions on which the clause of `fc` leans.
+
+There are none. A `struct` of the code and the `record` of the same crate and name are one notion: the record says what
+the struct stands for, as its `Model` or a view of it.
+"""
 
 from __future__ import annotations
 
 from collections.abc import Iterable
-from pathlib import Path
 
 from .definitions import Definition
-
-# those that there still are; none is ever added
-KNOWN = Path(__file__).parent / "double_names.txt"
 
 
 def names_of(it: Definition) -> list[str]:
@@ -16,21 +16,25 @@ def names_of(it: Definition) -> list[str]:
     return [it.name, *(case for case in it.cases if case[0].isupper())]
 
 
+def is_struct_with_its_record(those: Iterable[Definition]) -> bool:
+    """Whether these are a struct of the code and the record of the same crate."""
+    first, *rest = sorted(those, key=lambda it: it.file.endswith(".rt"))
+    return (
+        len(rest) == 1
+        and rest[0].crate == first.crate
+        and "record " in first.text.partition(first.name)[0]
+        and "struct " in rest[0].text.partition(first.name)[0]
+    )
+
+
 def doubles(found: Iterable[Definition]) -> dict[str, list[str]]:
     """Each name that stands for several things, with their files."""
-    files: dict[str, set[str]] = {}
+    named: dict[str, dict[str, Definition]] = {}
     for it in found:
         for name in names_of(it):
-            files.setdefault(name, set()).add(it.file)
-    return {name: sorted(there) for name, there in sorted(files.items()) if len(there) > 1}
-
-
-def known() -> list[str]:
-    """The names that are known to have several meanings."""
-    return [line for line in KNOWN.read_text().splitlines() if line and not line.startswith("#")]
-
-
-def forget(found: Iterable[str]) -> None:
-    """Takes away the known names that aren't among those found."""
-    kept = [line for line in KNOWN.read_text().splitlines() if line.startswith("#") or line in found]
-    KNOWN.write_text("".join(line + "\n" for line in kept))
+            named.setdefault(name, {})[it.file] = it
+    return {
+        name: sorted(files)
+        for name, files in sorted(named.items())
+        if len(files) > 1 and not is_struct_with_its_record(files.values())
+    }

@@ -31,40 +31,42 @@ class Promise:
     cut: tuple[str, ...] = ()
 
 
-YES = "fc_inputs/specs/Yes.antt HasYes"
+YES = "command_frame/specs/Yes.antt HasYes"
 CHECK = "fc_check/specs/Promises.antt "
 STABLE = "fc_stable/specs/Promises.antt "
 TRACE = "fc_trace/specs/Promises.antt "
-EDITS = "firing_core/specs/Cores.antt Edits"
+# what an edit is and does: a log that has rounds has none
+EDITS = ("firing_core/specs/Cores.antt Edits", "firing_core/specs/Entries.antt EditValue")
 PROMISES = (
     Promise(
         "What stabilises means",
-        "The rules of the calculus, networks, firings and rounds, solutions, and the promise itself, `Stabilises`. The "
-        "lines on edits (`Edits`) are left for later: a log that has rounds has no edit (`HasRounds`, `has_edit`).",
+        "The rules of the calculus, networks, firings and rounds, solutions, and the promise itself, `Stabilises`. "
+        "What an edit is and does (`EditValue`, `Edits`) is left for `replay`: a log that has rounds has no edit "
+        "(`HasRounds`, `has_edit`).",
         ("converge_laws/specs/Stabilising.antt Stabilises",),
-        (EDITS,),
+        EDITS,
     ),
     Promise(
         "Which program and which network two texts are",
         "Tokens, grammar, calls replaced by what they call, and JSON: `ReadsInput`. With them `HasYes` can be read.",
-        ("fc_inputs/specs/Inputs.antt ReadsInput", YES),
-        (EDITS,),
+        ("command_frame/specs/Inputs.antt ReadsInput", YES),
+        EDITS,
     ),
     Promise(
         "What `check` and `stable` promise",
         "`VerdictKept` and `SolvesYes`: the verdict stands in the text and a yes is kept, and the lines of `stable` "
         "are the one field.",
         (CHECK + "VerdictKept", STABLE + "SolvesYes"),
-        (EDITS,),
+        EDITS,
     ),
     Promise(
         "What `check --settle` promises",
         "`SettlesKept` and `StartKept`, over firings and over message links.",
         (CHECK + "SettlesKept", CHECK + "StartKept"),
-        (EDITS,),
+        EDITS,
     ),
     Promise(
-        "What `trace` promises", "`TraceKept`: walks, their costs, and the best.", (TRACE + "TraceKept",), (EDITS,)
+        "What `trace` promises", "`TraceKept`: walks, their costs, and the best.", (TRACE + "TraceKept",), EDITS
     ),
     Promise(
         "What `replay` promises",
@@ -85,6 +87,11 @@ PROMISES = (
         "What `gen` promises",
         "`ScenarioAgrees`: the program and the ring of a number.",
         ("fc_gen/specs/Promises.antt ScenarioAgrees",),
+    ),
+    Promise(
+        "What `check --settle --changes` promises",
+        "`ChangesKept`: what the lines allow, the envelope of a scene and lines, and logs that stay within it.",
+        ("fc_changes/specs/Promises.antt ChangesKept",),
     ),
     Promise(
         "The limits",
@@ -115,13 +122,22 @@ CUTS = {
     "settle_rounds/specs/Within.antt StartTable": "the same, from one start",
     "settle_rounds/specs/Starts.antt growing_cap": "the same",
     "bound_rounds/specs/Rounds.antt BoundTable": "the same",
-    "fc_inputs/specs/Sources.antt IsNoProgram": "why a text is refused: where it is, nothing is promised of it",
-    "fc_types/specs/Typing.antt IsTyped": "which programs are accepted beyond grammar: a promise is of one that was",
-    "fc_parser/specs/Limits.antt limit_passed": "the same",
+    "command_frame/specs/Sources.antt IsNoProgram": "why a text is refused: where it is, nothing is promised of it",
+    "fc_parser/specs/Limits.antt limit_passed":
+        "which programs are accepted beyond grammar: a promise is of one that was",
     "unfold/specs/Nodes.antt Nodes": "the same",
+    "fc_types/specs/Typing.antt IsTyped":
+        "the same; of a program without types the promise would be about what it unfolds to, where `untyped` stands "
+        "for a name that nothing binds",
     "fragment_check/specs/Patterns.antt body_pattern":
         "which programs have the walk form: what it makes of one that has it stands beside it",
     "fc_mail/specs/Drives.antt driven_log":
         "which log a number makes: that it has so many rounds is said beside it",
     "scramble/specs/Rubbish.antt AreDrawn": "which exports a `scramble` draws: a yes is from any",
+    "scramble/specs/Words.antt stream_of": "the same",
+    "command_frame/specs/Causes.antt Cause": "why texts are refused: a promise is of those that are accepted",
+    "command_frame/specs/Ledgers.antt ledger_of":
+        "what the book of the outcome stands for, which the program drops: the answer's own stands in the promise",
+    "firing_core/src/books.rt Book": "the same",
+    "export_table/src/firing.rt Gate": "what tests call between a begin and an end: no clause speaks of it",
 }  # fmt: skip

@@ -12,12 +12,11 @@ from helping import TOP
 
 from audit import doubles
 from audit.closure import Repository
-from audit.definitions import Definition
-from audit.page import Page, place
+from audit.definitions import Definition, read_code, read_definitions
+from audit.notation import NOTATION, OUTSIDE
+from audit.page import FEW, Page, place, sentence
 
 ROW = re.compile(r"^\| `(\w+/(?:specs|src)/[\w/]+\.\w+)` \| ([\d–, ]+) \|", re.MULTILINE)
-# how many names still have several meanings; this number only falls
-MOST_DOUBLES = 71
 
 LOW = """\
 -- Numbers.
@@ -152,11 +151,32 @@ class Closure(unittest.TestCase):
         self.assertEqual((found["size"][1], found["other"][:2]), (24, (26, 27)))
         self.assertEqual(file.said, "Numbers.")
 
+    def test_what_is_said_of_a_definition(self) -> None:
+        with tempfile.TemporaryDirectory() as room:
+            written = Path(room, "Lengths.antt")
+            written.write_text("-- Lengths.\n\n-- ---- of lists\nabbrev pub one : ℕ\none = 1\n\n-- two\ntwo = 2\n")
+            read = read_definitions(written, "low/specs/Lengths.antt")
+            found = {it.name: (it.first, it.comment) for it in read.definitions}
+            self.assertEqual(found, {"one": (4, ""), "two": (7, "two")})
+            written = Path(room, "cut.rt")
+            written.write_text("//! Cuts.\n\n// The cut.\nconst CUT: u32 = 1;\n")
+            (cut,) = read_code(written, "low/src/cut.rt").definitions
+            self.assertEqual((cut.first, cut.last, cut.comment), (3, 4, "The cut."))
+
     def test_names_with_several_meanings(self) -> None:
         first = Definition("a/specs/A.antt", "size", 1, 1, "", "", False)
         second = Definition("b/specs/B.antt", "Tree", 1, 1, "", "", True, ("size", "Leaf"))
         third = Definition("c/specs/C.antt", "Leaf", 1, 1, "", "", True)
         self.assertEqual(doubles.doubles([first, second, third]), {"Leaf": ["b/specs/B.antt", "c/specs/C.antt"]})
+
+    def test_a_struct_and_the_record_of_its_crate_are_one_meaning(self) -> None:
+        record = Definition("a/specs/A.antt", "Core", 1, 1, "", "pub record Core : Type 0 where", True)
+        other = Definition("a/specs/B.antt", "Core", 1, 1, "", "pub data Core : Type 0 where", True)
+        struct = Definition("a/src/a.rt", "Core", 1, 1, "", "pub struct Core {", True)
+        above = Definition("b/src/b.rt", "Core", 1, 1, "", "pub struct Core {", True)
+        self.assertEqual(doubles.doubles([record, struct]), {})
+        for several in ([record, above], [other, struct], [record, other], [record, struct, above]):
+            self.assertEqual(doubles.doubles(several), {"Core": sorted(it.file for it in several)})
 
 
 class Audit(unittest.TestCase):
@@ -196,6 +216,30 @@ class Audit(unittest.TestCase):
             for it in definitions:
                 self.assertLessEqual({*self.repository.named(it)}, above, it)
 
+    def test_each_row_names_what_its_lines_define(self) -> None:
+        page = self.page.write()
+        for number, (promise, found) in enumerate(self.page.soundness(), 1):
+            section = page.partition(f"### {number}. {promise.title}")[2].partition("\n#")[0]
+            rows = {file: row for row in section.splitlines() for file in ROW.findall(row + "\n")}
+            for (file, _), row in rows.items():
+                its = [it for it in found if it.file == file]
+                for it in its:
+                    self.assertIn(f"`{it.name}`", row)
+                    self.assertTrue(len(its) > FEW or sentence(it.comment) in row, it)
+
+    def test_each_name_of_the_kit_has_a_meaning(self) -> None:
+        said = [name for names, _ in OUTSIDE for name in names.split()]
+        self.assertEqual(len({*said}), len(said))
+        self.assertEqual({*said}, self.page.outside(), "python/audit/notation.py says what they mean")
+        self.assertEqual(len({sign for sign, _ in NOTATION}), len(NOTATION))
+
+    def test_each_name_of_the_way_has_a_section(self) -> None:
+        """But for what is never gone into."""
+        cut = {f"`{it.name}`" for it in self.page.cuts}
+        for it in self.page.ends():
+            never = [part for part in self.page.beside(it).split("; ") if part.startswith("never: ")]
+            self.assertLessEqual({*", ".join(never).replace("never: ", "").split(", ")} - {""}, cut, it)
+
     def test_each_promise_of_the_headline_has_a_section(self) -> None:
         """What the last section adds of the headline says which promise is kept, and is none."""
         _, last = self.page.soundness()[-1]
@@ -215,11 +259,8 @@ class Audit(unittest.TestCase):
                 brought = {self.repository.at(*it) for it in read.names.values()} - {None}
                 self.assertLessEqual(brought, named, file)
 
-    def test_no_name_gets_a_second_meaning(self) -> None:
-        found, known = doubles.doubles(self.every), doubles.known()
-        self.assertEqual({name: it for name, it in found.items() if name not in known}, {}, "one meaning a name")
-        self.assertEqual([name for name in known if name not in found], [], "call tools/audit, which takes them away")
-        self.assertLessEqual(len(known), MOST_DOUBLES)
+    def test_each_name_has_one_meaning(self) -> None:
+        self.assertEqual(doubles.doubles(self.every), {})
 
 
 if __name__ == "__main__":

@@ -4,7 +4,7 @@ use Rattle.fc_values.specs.Types.{BoolType}
 use Rattle.fc_values.specs.Values.{IntValue, BoolValue, PairValue}
 use Rattle.fc_values.specs.BuiltinTypes.{inner}
 use Rattle.fc_values.specs.Trees.{Tree, Trees, Keep, Done, Then, TreeExport, child}
-use Rattle.fc_nodes.specs.Terms.{Term, Terms, Plain, Apply, Nbr, Evolve, If, Let, NoMore, More, type_of}
+use Rattle.fc_nodes.specs.Terms.{Term, Terms, Plain, Apply, Nbr, Evolve, If, Let, NoMore, More, term_type}
 use Rattle.fc_nodes.specs.Program.{Unfolding}
 use Rattle.fc_nodes.specs.Flat.{IsWellTyped, FitsTree, FitTrees, OneMore}
 use Rattle.value_bounds.specs.BoundValues.{anything}
@@ -71,6 +71,6 @@ module _ (m : ℕ) where
 
 pub lies_at_first : (U : Unfolding) (e : TreeExport) → IsWellTyped U e → ExportLies U (any_export U) e
 lies_at_first U e h = record {
-  value = lies_anything U.declared.ceiling (inner (type_of U.main)) e.value h.value;
+  value = lies_anything U.declared.ceiling (inner (term_type U.main)) e.value h.value;
   tree = tree_lies U.declared.ceiling U.main e.tree h.tree;
 }

@@ -8,7 +8,7 @@ use Rattle.std.specs.Prelude.{slice_set, option_to_list}
 use Rattle.fc_values.specs.Types.{LocalType, ValueType}
 use Rattle.fc_values.specs.BuiltinTypes.{inner}
 use Rattle.fc_nodes.specs.declared.nodes.Node.{Node}
-use Rattle.fc_nodes.specs.Terms.{Term, Plain, Apply, Nbr, Evolve, If, Let, type_of, Sort, kept, kept_type, kept_types}
+use Rattle.fc_nodes.specs.Terms.{Term, Plain, Apply, Nbr, Evolve, If, Let, term_type, Sort, kept, kept_type, kept_types}
 use Rattle.fc_nodes.specs.Terms.{nodes_kept_types, term_at, HasNode, Laid}
 use Rattle.fc_nodes.specs.Program.{Program, Unfolding, IsProgram}
 use Rattle.fc_nodes.specs.Layouts.{LayoutValue, IsLayout}
@@ -68,7 +68,7 @@ one_more_kept f ns p q e s t ks h {xs} {ys} x y =
 
 -- the type of a term is that of its node
 module _ (ns : List Node) (s : Sort) (t : ValueType) (ks : List ℕ) where
-  laid_type : (u : Term) (p : ℕ) → HasNode ns p s t ks → Laid ns p u → type_of u ≡ t
+  laid_type : (u : Term) (p : ℕ) → HasNode ns p s t ks → Laid ns p u → term_type u ≡ t
   laid_type (Plain t' v) p h l = cc
   laid_type (Apply t' o ts) p h l = let l0 = l.0 in cc
   laid_type (Nbr t' a) p h l = let l0 = l.0 in cc
@@ -80,7 +80,7 @@ module _ (P : Program) (p : IsProgram P) where
   pub root_within : 0 < length P.nodes
   root_within = laid_within P.nodes 0 (term_at P.nodes 0) p.formed.laid
 
-  pub root_type : (s : Sort) (t : ValueType) (ks : List ℕ) → HasNode P.nodes 0 s t ks → type_of (term_at P.nodes 0) ≡ t
+  pub root_type : (s : Sort) (t : ValueType) (ks : List ℕ) → HasNode P.nodes 0 s t ks → term_type (term_at P.nodes 0) ≡ t
   root_type s t ks h = laid_type P.nodes s t ks (term_at P.nodes 0) 0 h p.formed.laid
 
   pub all_kept : (n : ℕ) → n ≡ length P.nodes → nodes_kept_types (take n P.nodes) ≡ kept_types (term_at P.nodes 0)
@@ -94,7 +94,7 @@ kept_slots f t xs e =
     sym (length-map xs local_bound_in) ∙ ap length e ∙ length-map (kept_types t) f ∙ kept_long t
 
 pub any_is : (U : Unfolding) (m : ℕ) (v : BoundValue) (t : LocalType) (bs : List BoundValue) → m ≡ U.declared.ceiling
-    → v ≡ anything m t → t ≡ inner (type_of U.main) → bs ≡ map (anything m) (kept_types U.main)
+    → v ≡ anything m t → t ≡ inner (term_type U.main) → bs ≡ map (anything m) (kept_types U.main)
     → record { value = v; tree = bound_tree_at U.main 0 bs; sure = false } ≡ any_export U
 any_is U m v t bs e f g h =
     let first = slots_at_first U.declared.ceiling U.main in

@@ -2,7 +2,7 @@
 use Rattle.std.specs.Prelude.{Bool, false}
 use Rattle.fc_values.specs.BuiltinTypes.{inner}
 use Rattle.fc_values.specs.Trees.{TreeExport}
-use Rattle.fc_nodes.specs.Terms.{type_of}
+use Rattle.fc_nodes.specs.Terms.{term_type}
 use Rattle.fc_nodes.specs.Program.{Unfolding}
 use Rattle.value_bounds.specs.BoundValues.{BoundValue, Lies, anything}
 use Rattle.bound_firing.specs.BoundTrees.{BoundTree, TreeLies, any_tree}
@@ -17,7 +17,7 @@ pub record ExportBound : Type 0 where
 -- any export of a program, which may be missing
 abbrev pub any_export : Unfolding → ExportBound
 any_export U = record {
-  value = anything U.declared.ceiling (inner (type_of U.main));
+  value = anything U.declared.ceiling (inner (term_type U.main));
   tree = any_tree U.declared.ceiling U.main;
   sure = false;
 }

@@ -25,12 +25,12 @@ pub record BoundLine : Type 0 where
   pub away : Bool
 
 -- a bound after a space
-abbrev pub after_space : BoundValue → List ℕ
-after_space b = codes " " ++ bound_text b
+abbrev pub bound_after_space : BoundValue → List ℕ
+bound_after_space b = codes " " ++ bound_text b
 
 abbrev pub before_text : Option BoundValue → List ℕ
 before_text None = []
-before_text (Some b) = after_space b
+before_text (Some b) = bound_after_space b
 
 abbrev pub away_text : Bool → List ℕ
 away_text true = codes " away"
@@ -39,7 +39,7 @@ away_text false = []
 -- the line of a device
 abbrev pub bound_line_text : BoundLine → List ℕ
 bound_line_text l =
-    decimal l.device ++ codes " " ++ decimal l.rounds ++ after_space l.bound ++ before_text l.before
+    decimal l.device ++ codes " " ++ decimal l.rounds ++ bound_after_space l.bound ++ before_text l.before
     ++ away_text l.away ++ codes "\n"
 
 -- the greatest number of rounds of a device

@@ -4,7 +4,7 @@ ghost use Rattle.std.specs.Prelude.{◌≡◌, ◌++◌, OnOk};
 ghost use Rattle.std.specs.Fmt.{decimal};
 ghost use Rattle.value_bounds.specs.BoundValues.{Between};
 ghost use Rattle.value_bounds.specs.References.{local_bound_in};
-ghost use Rattle.bound_texts.specs.BoundTexts.{after_space, bound_text};
+ghost use Rattle.bound_texts.specs.BoundTexts.{bound_after_space, bound_text};
 
 use fc_values::Memory;
 use std::alloc::Global;
@@ -56,7 +56,7 @@ pub(crate) fn write_after_space(
     out: &mut Vec<u8>,
     bound: &LocalBound,
 ) -> Result<(), Memory>
-    ensures { OnOk result (out.new.items ≡ out.old.items ++ after_space (local_bound_in bound.now)) }
+    ensures { OnOk result (out.new.items ≡ out.old.items ++ bound_after_space (local_bound_in bound.now)) }
 {
     out.push(b' ')?;
     write_bound(alloc, out, bound)

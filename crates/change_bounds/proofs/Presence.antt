@@ -5,7 +5,7 @@ use Rattle.fc_values.specs.Fields.{is_in}
 use Rattle.fc_values.proofs.Numbers.{in_append}
 use Rattle.topology.specs.declared.types.Device.{Device}
 use Rattle.std.specs.Prelude.{Option}
-use Rattle.topology.specs.Networks.{Network, NetDevice, device_of, numbers, lives}
+use Rattle.topology.specs.Networks.{Network, NetDevice, net_device_of, numbers, lives}
 use Rattle.changes.specs.Changes.{ChangeValue, SetChange, LinkChange, UnlinkChange, LeaveChange, JoinChange}
 use Rattle.changes.specs.Hand.{some_line, joins_device, leaves_device}
 use Rattle.change_bounds.specs.Tables.{presence, is_noted, is_gone, noted}
@@ -56,17 +56,17 @@ module _ (n : Network) (cs : List ChangeValue) (d : ℕ) where
 
 -- one device more of a scene
 module _ (ns : List Device) (k : ℕ) (x : Device) (is : x ≡ get_or ns k x) (h : k < length ns) where
-  among : (d : ℕ) → is_in d (numbers (map device_of (take (k + 1) ns))) ≡ (is_in d (numbers (map device_of (take k ns))) || (nat_eq d x.id || false))
+  among : (d : ℕ) → is_in d (numbers (map net_device_of (take (k + 1) ns))) ≡ (is_in d (numbers (map net_device_of (take k ns))) || (nat_eq d x.id || false))
   among d =
-      ap (λ xs. is_in d (numbers (map device_of xs))) (take_more ns k x h)
-      ∙ ap (λ y. is_in d (numbers (map device_of (take k ns ++ y ∷ [])))) (sym is)
-      ∙ ap (λ xs. is_in d (numbers xs)) (map-append device_of (take k ns) (x ∷ []))
-      ∙ ap (is_in d) (map-append (λ (n : NetDevice). n.id) (map device_of (take k ns)) (device_of x ∷ []))
-      ∙ in_append d (numbers (map device_of (take k ns))) (x.id ∷ [])
+      ap (λ xs. is_in d (numbers (map net_device_of xs))) (take_more ns k x h)
+      ∙ ap (λ y. is_in d (numbers (map net_device_of (take k ns ++ y ∷ [])))) (sym is)
+      ∙ ap (λ xs. is_in d (numbers xs)) (map-append net_device_of (take k ns) (x ∷ []))
+      ∙ ap (is_in d) (map-append (λ (n : NetDevice). n.id) (map net_device_of (take k ns)) (net_device_of x ∷ []))
+      ∙ in_append d (numbers (map net_device_of (take k ns))) (x.id ∷ [])
 
-  pub one_device_more : (d : ℕ) → (if nat_eq d x.id then Some true else (if is_in d (numbers (map device_of (take k ns))) then Some true else None))
-      ≡ (if is_in d (numbers (map device_of (take (k + 1) ns))) then Some true else None)
-  one_device_more d = by_tests (is_in d (numbers (map device_of (take k ns)))) (nat_eq d x.id) ∙ ap (λ b. if b then Some true else None) (sym (among d))
+  pub one_device_more : (d : ℕ) → (if nat_eq d x.id then Some true else (if is_in d (numbers (map net_device_of (take k ns))) then Some true else None))
+      ≡ (if is_in d (numbers (map net_device_of (take (k + 1) ns))) then Some true else None)
+  one_device_more d = by_tests (is_in d (numbers (map net_device_of (take k ns)))) (nat_eq d x.id) ∙ ap (λ b. if b then Some true else None) (sym (among d))
     where
       by_tests : (p q : Bool) → (if q then Some true else (if p then Some true else None)) ≡ (if p || (q || false) then Some true else None)
       by_tests true true = refl

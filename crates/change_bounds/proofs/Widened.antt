@@ -16,7 +16,7 @@ use Rattle.fc_values.specs.Fields.{Rises, is_in}
 use Rattle.fc_values.proofs.Booleans.{or_no}
 use Rattle.fc_values.proofs.Rising.{AllAbove, all_above, rises_tail, strictly}
 use Rattle.topology.specs.declared.types.Device.{Device}
-use Rattle.topology.specs.Networks.{NetDevice, Network, IsNetwork, device_of, numbers, inputs_in}
+use Rattle.topology.specs.Networks.{NetDevice, Network, IsNetwork, net_device_of, numbers, inputs_in}
 use Rattle.value_bounds.specs.BoundValues.{BoundValue, exactly}
 use Rattle.value_bounds.specs.References.{local_bound_in}
 use Rattle.value_bounds.specs.declared.bounds.LocalBound.{LocalBound}
@@ -144,34 +144,34 @@ rises_front [] ys r = tt
 rises_front (x ∷ []) ys r = tt
 rises_front (x ∷ y ∷ xs) ys r = (r.0, rises_front (y ∷ xs) ys r.1)
 
-module _ (n : Network) (ds : List Device) (net : IsNetwork n) (e : map device_of ds ≡ n.devices) (k : ℕ) (x : Device) (is : x ≡ get_or ds k x) (h : k < length ds) where
-  devices_to : map device_of (take (k + 1) ds) ≡ map device_of (take k ds) ++ device_of x ∷ []
-  devices_to = ap (map device_of) (take_more ds k x h) ∙ ap (λ y. map device_of (take k ds ++ y ∷ [])) (sym is) ∙ map-append device_of (take k ds) (x ∷ [])
+module _ (n : Network) (ds : List Device) (net : IsNetwork n) (e : map net_device_of ds ≡ n.devices) (k : ℕ) (x : Device) (is : x ≡ get_or ds k x) (h : k < length ds) where
+  devices_to : map net_device_of (take (k + 1) ds) ≡ map net_device_of (take k ds) ++ net_device_of x ∷ []
+  devices_to = ap (map net_device_of) (take_more ds k x h) ∙ ap (λ y. map net_device_of (take k ds ++ y ∷ [])) (sym is) ∙ map-append net_device_of (take k ds) (x ∷ [])
 
-  split : numbers n.devices ≡ numbers (map device_of (take (k + 1) ds)) ++ numbers (map device_of (drop (k + 1) ds))
-  split = ap numbers (sym e) ∙ ap (λ xs. numbers (map device_of xs)) (sym (take-append-drop (k + 1) ds)) ∙ ap numbers (map-append device_of (take (k + 1) ds) (drop (k + 1) ds)) ∙ map-append (λ (m : NetDevice). m.id) (map device_of (take (k + 1) ds)) (map device_of (drop (k + 1) ds))
+  split : numbers n.devices ≡ numbers (map net_device_of (take (k + 1) ds)) ++ numbers (map net_device_of (drop (k + 1) ds))
+  split = ap numbers (sym e) ∙ ap (λ xs. numbers (map net_device_of xs)) (sym (take-append-drop (k + 1) ds)) ∙ ap numbers (map-append net_device_of (take (k + 1) ds) (drop (k + 1) ds)) ∙ map-append (λ (m : NetDevice). m.id) (map net_device_of (take (k + 1) ds)) (map net_device_of (drop (k + 1) ds))
 
-  is_new : is_in x.id (numbers (map device_of (take k ds))) ≡ false
-  is_new = new_last (numbers (map device_of (take k ds))) x.id
-      (subst Rises (ap numbers devices_to ∙ map-append (λ (m : NetDevice). m.id) (map device_of (take k ds)) (device_of x ∷ []))
-      (rises_front (numbers (map device_of (take (k + 1) ds))) (numbers (map device_of (drop (k + 1) ds))) (subst Rises split net.rising)))
+  is_new : is_in x.id (numbers (map net_device_of (take k ds))) ≡ false
+  is_new = new_last (numbers (map net_device_of (take k ds))) x.id
+      (subst Rises (ap numbers devices_to ∙ map-append (λ (m : NetDevice). m.id) (map net_device_of (take k ds)) (net_device_of x ∷ []))
+      (rises_front (numbers (map net_device_of (take (k + 1) ds))) (numbers (map net_device_of (drop (k + 1) ds))) (subst Rises split net.rising)))
 
   pub device_more : (d i : ℕ)
-      → (if nat_eq d x.id then option_or (option_map exactly (slice_get (map local_of x.inputs.items) i)) (option_map exactly (slice_get (inputs_in d (map device_of (take k ds))) i))
-      else option_map exactly (slice_get (inputs_in d (map device_of (take k ds))) i))
-      ≡ option_map exactly (slice_get (inputs_in d (map device_of (take (k + 1) ds))) i)
-  device_more d i = by_test (nat_eq d x.id) refl ∙ ap (λ vs. option_map exactly (slice_get vs i)) (sym (ap (inputs_in d) devices_to ∙ inputs_last d (map device_of (take k ds)) (device_of x) is_new))
+      → (if nat_eq d x.id then option_or (option_map exactly (slice_get (map local_of x.inputs.items) i)) (option_map exactly (slice_get (inputs_in d (map net_device_of (take k ds))) i))
+      else option_map exactly (slice_get (inputs_in d (map net_device_of (take k ds))) i))
+      ≡ option_map exactly (slice_get (inputs_in d (map net_device_of (take (k + 1) ds))) i)
+  device_more d i = by_test (nat_eq d x.id) refl ∙ ap (λ vs. option_map exactly (slice_get vs i)) (sym (ap (inputs_in d) devices_to ∙ inputs_last d (map net_device_of (take k ds)) (net_device_of x) is_new))
     where
       alone : (o : Option BoundValue) → option_or o None ≡ o
       alone None = refl
       alone (Some b) = refl
 
       by_test : (t : Bool) → nat_eq d x.id ≡ t
-          → (if t then option_or (option_map exactly (slice_get (map local_of x.inputs.items) i)) (option_map exactly (slice_get (inputs_in d (map device_of (take k ds))) i))
-          else option_map exactly (slice_get (inputs_in d (map device_of (take k ds))) i))
-          ≡ option_map exactly (slice_get (if t then map local_of x.inputs.items else inputs_in d (map device_of (take k ds))) i)
+          → (if t then option_or (option_map exactly (slice_get (map local_of x.inputs.items) i)) (option_map exactly (slice_get (inputs_in d (map net_device_of (take k ds))) i))
+          else option_map exactly (slice_get (inputs_in d (map net_device_of (take k ds))) i))
+          ≡ option_map exactly (slice_get (if t then map local_of x.inputs.items else inputs_in d (map net_device_of (take k ds))) i)
       by_test true q =
-          ap (λ vs. option_or (option_map exactly (slice_get (map local_of x.inputs.items) i)) (option_map exactly (slice_get vs i))) (ap (λ j. inputs_in j (map device_of (take k ds))) (nat_same d x.id q) ∙ none_there x.id (map device_of (take k ds)) is_new)
+          ap (λ vs. option_or (option_map exactly (slice_get (map local_of x.inputs.items) i)) (option_map exactly (slice_get vs i))) (ap (λ j. inputs_in j (map net_device_of (take k ds))) (nat_same d x.id q) ∙ none_there x.id (map net_device_of (take k ds)) is_new)
           ∙ alone (option_map exactly (slice_get (map local_of x.inputs.items) i))
       by_test false q = refl
 

@@ -11,7 +11,7 @@ use Rattle.std.specs.BTreeMap.{is_at}
 use Rattle.fc_values.specs.Fields.{is_in}
 use Rattle.fc_values.proofs.Rising.{min_or, strictly}
 use Rattle.topology.specs.Networks.{Network, IsNetwork, LinkFits, LinksFit, near_in}
-use Rattle.topology.specs.Nearby.{near_numbers}
+use Rattle.topology.specs.Nearby.{neighbour_numbers}
 use Rattle.topology.specs.Changes.{are_linked, has_pair}
 use Rattle.topology.proofs.Neighbours.{near_rises, near_linked}
 use Rattle.envelopes.specs.Envelopes.{MaybeLink, least_edge, maybe_near, near_ids}
@@ -184,12 +184,12 @@ module _ (n : Network) (net : IsNetwork n) (metric : n.declared.least ≤ n.decl
 
   -- ---- no device is in too many
 
-  same_near : (d : ℕ) (ms : List MaybeLink) → near_numbers (near_in d (map least_edge ms)) ≡ near_ids (maybe_near d ms)
+  same_near : (d : ℕ) (ms : List MaybeLink) → neighbour_numbers (near_in d (map least_edge ms)) ≡ near_ids (maybe_near d ms)
   same_near d [] = refl
   same_near d (m ∷ ms) = by_tests (nat_eq m.a d) (nat_eq m.b d) (same_near d ms)
     where
-      by_tests : (p q : Bool) → near_numbers (near_in d (map least_edge ms)) ≡ near_ids (maybe_near d ms)
-          → near_numbers (if p then (m.b, m.least) ∷ near_in d (map least_edge ms) else (if q then (m.a, m.least) ∷ near_in d (map least_edge ms) else near_in d (map least_edge ms)))
+      by_tests : (p q : Bool) → neighbour_numbers (near_in d (map least_edge ms)) ≡ near_ids (maybe_near d ms)
+          → neighbour_numbers (if p then (m.b, m.least) ∷ near_in d (map least_edge ms) else (if q then (m.a, m.least) ∷ near_in d (map least_edge ms) else near_in d (map least_edge ms)))
           ≡ near_ids (if p then (m.b, m) ∷ maybe_near d ms else (if q then (m.a, m) ∷ maybe_near d ms else maybe_near d ms))
       by_tests true q h = ap (λ ns. m.b ∷ ns) h
       by_tests false true h = ap (λ ns. m.a ∷ ns) h
@@ -204,7 +204,7 @@ module _ (n : Network) (net : IsNetwork n) (metric : n.declared.least ≤ n.decl
       by_test true h = refl
       by_test false h = h
 
-  near_are : (d : ℕ) → near_numbers (near_in d (map least_edge (links_by s es))) ≡ partners n (said ls) d
+  near_are : (d : ℕ) → neighbour_numbers (near_in d (map least_edge (links_by s es))) ≡ partners n (said ls) d
   near_are d = same_members _ _ (near_rises n.declared ds d (map least_edge (links_by s es)) links_fit) (partners_rise n net (said ls) d)
       (λ e. near_linked n.declared ds d e (map least_edge (links_by s es)) links_fit
       ∙ has_weights (min d e) (max d e) (links_by s es)

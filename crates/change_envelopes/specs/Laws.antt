@@ -11,6 +11,7 @@ use Rattle.changes.specs.Faults.{NoneRefused}
 use Rattle.change_envelopes.specs.Envelopes.{IsEnvelopeOf}
 use Rattle.change_envelopes.specs.Allowed.{Allows}
 
+-- one of the lines says this
 abbrev pub IsSaid : ChangeValue → List ChangeValue → Type 0
 IsSaid c [] = ⊥
 IsSaid c (x ∷ xs) = (x ≡ c) ⊎ IsSaid c xs

@@ -6,8 +6,8 @@ use Rattle.fc_values.specs.Names.{is_name}
 use Rattle.fc_values.specs.Numbers.{number_of}
 use Rattle.fc_io.specs.Lines.{lines_of, line_text, is_empty}
 use Rattle.edit_commands.specs.Lines.{words_of}
-use Rattle.edit_commands.specs.Words.{device_of}
-use Rattle.edit_commands.specs.EditLines.{with_two, with_three, input_number}
+use Rattle.edit_commands.specs.Words.{written_device}
+use Rattle.edit_commands.specs.EditLines.{with_two, with_three, input_index}
 use Rattle.changes.specs.Changes.{ChangeValue, SetChange, LinkChange, UnlinkChange, LeaveChange, JoinChange}
 use Rattle.change_lines.specs.declared.lines.ChangeWord.{ChangeWord}
 use Rattle.change_lines.specs.declared.lines.ChangeWord.TheVariants as first
@@ -17,7 +17,7 @@ use Rattle.change_lines.specs.Possibles.{possible_of, possibles_of, weights_of}
 
 abbrev pub set_words : List Input → List (List ℕ) → Option ChangeValue
 set_words is (d ∷ name ∷ v ∷ []) =
-    if is_name name then with_two (λ n p. SetChange n (input_number is name) p) (number_of d) (possible_of v) else None
+    if is_name name then with_two (λ n p. SetChange n (input_index is name) p) (number_of d) (possible_of v) else None
 set_words is words = None
 
 abbrev pub link_words : List (List ℕ) → Option ChangeValue
@@ -33,7 +33,7 @@ leave_words (d ∷ []) = option_map LeaveChange (number_of d)
 leave_words words = None
 
 abbrev pub join_words : List (List ℕ) → Option ChangeValue
-join_words (d ∷ vs) = with_two JoinChange (device_of d) (possibles_of vs)
+join_words (d ∷ vs) = with_two JoinChange (written_device d) (possibles_of vs)
 join_words words = None
 
 -- what the first word says

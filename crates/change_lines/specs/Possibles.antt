@@ -7,7 +7,7 @@ use Rattle.std.specs.Str.{bytes_eq}
 use Rattle.fc_values.specs.Numbers.{number_of}
 use Rattle.fc_values.specs.Values.{LocalValue, IntValue, BoolValue, PairValue}
 use Rattle.edit_commands.specs.EditLines.{with_two}
-use Rattle.edit_commands.specs.Values.{value_of}
+use Rattle.edit_commands.specs.Values.{written_value}
 use Rattle.changes.specs.declared.types.Range.{Range}
 use Rattle.changes.specs.declared.types.Possible.{Possible}
 use Rattle.changes.specs.declared.types.Possible.TheVariants as possible
@@ -47,7 +47,7 @@ one_value (PairValue v w) = possible.Pair
 abbrev pub possible_of : List ℕ → Option Possible
 possible_of word =
     if bytes_eq word (codes "any") then Some possible.Any
-    else option_or (option_map possible.Numbers (range_of_word word)) (option_map one_value (value_of word))
+    else option_or (option_map possible.Numbers (range_of_word word)) (option_map one_value (written_value word))
 
 -- the values that words say, if each says some
 abbrev pub possibles_of : List (List ℕ) → Option (List Possible)

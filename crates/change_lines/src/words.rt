@@ -4,7 +4,7 @@ ghost use Rattle.std.specs.Prelude.{◌≡◌, ◌≤◌, ◌==◌, not, length,
 ghost use Rattle.std.specs.List.{prefix_len};
 ghost use Rattle.fc_values.specs.Values.{local_of};
 ghost use Rattle.edit_commands.specs.Code.{texts};
-ghost use Rattle.edit_commands.specs.Values.{value_of};
+ghost use Rattle.edit_commands.specs.Values.{written_value};
 ghost use Rattle.change_lines.specs.Possibles.{before_dot, dotted, range_of_word, range_with};
 ghost use Rattle.change_lines.specs.Possibles.{numbers_of, one_number, one_value, possible_of, possibles_of, weights_of};
 
@@ -77,7 +77,7 @@ fn one_value(value: &Local) -> Possible
 
 // What a word says that writes a value.
 fn value(alloc: Global, word: &[u8]) -> Result<Option<Possible>, Memory>
-    ensures { IfOk result (λ p. p ≡ option_map one_value (value_of word.now)) }
+    ensures { IfOk result (λ p. p ≡ option_map one_value (written_value word.now)) }
 {
     let Some(value) = read_value(alloc, word)? else {
         return Ok(None);

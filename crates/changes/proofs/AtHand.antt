@@ -7,7 +7,7 @@ use Rattle.fc_values.proofs.Numbers.{rises_with}
 use Rattle.fc_values.proofs.Rising.{rises_tail, rises_apart}
 use Rattle.fc_values.proofs.Booleans.{by_iff}
 use Rattle.topology.specs.Networks.{Network, IsNetwork, numbers, lives, near}
-use Rattle.topology.specs.Nearby.{near_numbers}
+use Rattle.topology.specs.Nearby.{neighbour_numbers}
 use Rattle.topology.specs.Changes.{are_linked}
 use Rattle.topology.proofs.Neighbours.{near_rises, near_linked}
 use Rattle.changes.specs.Changes.{ChangeValue, SetChange, LinkChange, UnlinkChange, LeaveChange, JoinChange}
@@ -127,7 +127,7 @@ pub first_length : (xs : List (ℕ × ℕ)) → length (first_of xs) ≡ length 
 first_length [] = refl
 first_length (x ∷ xs) = ap suc (first_length xs)
 
-first_numbers : (xs : List (ℕ × ℕ)) → first_of xs ≡ near_numbers xs
+first_numbers : (xs : List (ℕ × ℕ)) → first_of xs ≡ neighbour_numbers xs
 first_numbers [] = refl
 first_numbers (x ∷ xs) = ap (λ ys. x.0 ∷ ys) (first_numbers xs)
 

@@ -4,10 +4,10 @@ use Rattle.std.proofs.lemmas.Bool.{eqb-true, eq-eqb, ne_eqb}
 use Rattle.fc_values.specs.Types.{ValueType, Declarations}
 use Rattle.fc_values.specs.Values.{BoolValue}
 use Rattle.fc_values.specs.Fields.{restricted}
-use Rattle.fc_nodes.specs.Terms.{Literal, Variable, Sense, Uid, NbrLink, Term, Terms, Plain, Apply, Nbr, Evolve, If, Let, NoMore, More, type_of, size, sizes}
+use Rattle.fc_nodes.specs.Terms.{Literal, Variable, Sense, Uid, NbrLink, Term, Terms, Plain, Apply, Nbr, Evolve, If, Let, NoMore, More, term_type, size, sizes}
 use Rattle.fc_nodes.specs.Typing.{Scope, type_at, evolving_type, HasType, HaveTypes}
 use Rattle.topology.specs.Networks.{Network}
-use Rattle.topology.specs.Nearby.{near_numbers}
+use Rattle.topology.specs.Nearby.{neighbour_numbers}
 use Rattle.interval_facts.specs.Solutions.{Devices, ValueMap, ValueMaps, bind, near_among, local_map, evolved, where_is, Solves, SolveAll}
 use Rattle.closed_terms.specs.Parts.{lowered, all_lowered}
 
@@ -65,7 +65,7 @@ module _ (N : Network) (Dc : Declarations) (k : ℕ) where
     shift (Plain t (Literal v)) i j e bs D V W F h a s = s
     shift (Plain t (Variable n)) i j e bs D V W F h a s =
         let q = in_scope n t bs V W a h in
-        (s.0, λ d l. s.1 d l ∙ ap (λ (G : ValueMap). restricted d (near_numbers (near_among N D d)) (G d)) q)
+        (s.0, λ d l. s.1 d l ∙ ap (λ (G : ValueMap). restricted d (neighbour_numbers (near_among N D d)) (G d)) q)
     shift (Plain t (Sense x)) i j e bs D V W F h a s = s
     shift (Plain t Uid) i j e bs D V W F h a s = s
     shift (Plain t NbrLink) i j e bs D V W F h a s = s
@@ -93,7 +93,7 @@ module _ (N : Network) (Dc : Declarations) (k : ℕ) where
           s.0,
           s.1,
           shift x (suc i) (suc j) (omega (arith, e)) bs D V W s.1 h.1 a s.2,
-          shift y (suc i + size (lowered k x)) (suc j + size x) (omega (arith, e, n)) ((j, type_of x) ∷ bs) D (bind j s.1 V) (bind i s.1 W) F h.2 (omega (arith, e), own i j e s.1 V W, bound i j e s.1 bs V W a) s.3,
+          shift y (suc i + size (lowered k x)) (suc j + size x) (omega (arith, e, n)) ((j, term_type x) ∷ bs) D (bind j s.1 V) (bind i s.1 W) F h.2 (omega (arith, e), own i j e s.1 V W, bound i j e s.1 bs V W a) s.3,
         )
 
     shift_all : (xs : Terms) (i j : ℕ) → j ≡ k + i → (bs : Scope) (D : Devices) (V W : ValueMaps) (Gs : List ValueMap) → HaveTypes Dc bs j xs → Agree bs V W → SolveAll N i (all_lowered k xs) D W Gs → SolveAll N j xs D V Gs

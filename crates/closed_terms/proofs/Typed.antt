@@ -3,12 +3,12 @@ use Rattle.std.proofs.Common.{◌≡◌, ℕ, suc, ◌≤◌, ◌+◌, ◌-◌, 
 use Rattle.std.proofs.lemmas.Bool.{eqb-true, eq-eqb, ne_eqb}
 use Rattle.fc_values.specs.Types.{ValueType, Declarations}
 use Rattle.fc_values.specs.BuiltinTypes.{HasRule}
-use Rattle.fc_nodes.specs.Terms.{Literal, Variable, Sense, Uid, NbrLink, Term, Terms, Plain, Apply, Nbr, Evolve, If, Let, NoMore, More, type_of, size}
+use Rattle.fc_nodes.specs.Terms.{Literal, Variable, Sense, Uid, NbrLink, Term, Terms, Plain, Apply, Nbr, Evolve, If, Let, NoMore, More, term_type, size}
 use Rattle.fc_nodes.specs.Typing.{Scope, type_at, evolving_type, types_of, HasType, HaveTypes}
 use Rattle.closed_terms.specs.Parts.{lowered, all_lowered}
 use Rattle.closed_terms.proofs.Shifting.{same_size}
 
-pub same_type : (k : ℕ) (u : Term) → type_of (lowered k u) ≡ type_of u
+pub same_type : (k : ℕ) (u : Term) → term_type (lowered k u) ≡ term_type u
 same_type k (Plain t l) = refl
 same_type k (Apply t o xs) = refl
 same_type k (Nbr t a) = refl
@@ -88,8 +88,8 @@ module _ (Dc : Declarations) (k : ℕ) where
           h.0 ∙ sym (same_type k b),
           typed a (suc i) (suc j) (omega (arith, e)) bs w h.1,
           subst (λ y. HasType Dc ((i, y) ∷ lowered_scope bs) (suc i + size (lowered k a)) (lowered k b)) (sym (same_type k a))
-              (subst (λ x. HasType Dc ((x, type_of a) ∷ lowered_scope bs) (suc i + size (lowered k a)) (lowered k b)) q
-              (typed b (suc i + size (lowered k a)) (suc j + size a) (omega (arith, e, n)) ((j, type_of a) ∷ bs) (omega (arith, e), w) h.2)),
+              (subst (λ x. HasType Dc ((x, term_type a) ∷ lowered_scope bs) (suc i + size (lowered k a)) (lowered k b)) q
+              (typed b (suc i + size (lowered k a)) (suc j + size a) (omega (arith, e, n)) ((j, term_type a) ∷ bs) (omega (arith, e), w) h.2)),
         )
 
     all_typed : (xs : Terms) (i j : ℕ) → j ≡ k + i → (bs : Scope) → Within bs → HaveTypes Dc bs j xs → HaveTypes Dc (lowered_scope bs) i (all_lowered k xs)

@@ -2,7 +2,7 @@
 use Rattle.std.proofs.Common.{◌≡◌, ℕ, ◌-◌, ◌∙◌, List, [], length, sym, ap, subst, arith}
 use Rattle.fc_values.specs.Types.{Declarations}
 use Rattle.fc_nodes.specs.declared.nodes.Node.{Node}
-use Rattle.fc_nodes.specs.Terms.{type_of, size, term_at}
+use Rattle.fc_nodes.specs.Terms.{term_type, size, term_at}
 use Rattle.fc_nodes.specs.Typing.{HasType}
 use Rattle.fc_nodes.specs.Program.{Program, IsProgram}
 use Rattle.fc_nodes.proofs.Places.{formed_above}
@@ -25,7 +25,7 @@ module _ (P : Program) (program : IsProgram P) (p end : ℕ) (t : IsClosedTerm P
         lawful = program.lawful;
         formed = formed P.nodes ms (formed_above P.nodes program.formed) p low (term_at P.nodes p) t.stands.laid long;
         typed = subst (HasType P.declared [] 0) (sym main_is) (typed P.declared p (term_at P.nodes p) 0 p (omega arith) [] tt t.closed);
-        root = (t.local.0, ap type_of main_is ∙ same_type p (term_at P.nodes p) ∙ t.local.1);
+        root = (t.local.0, ap term_type main_is ∙ same_type p (term_at P.nodes p) ∙ t.local.1);
         short = let a = program.short in let b = t.within in omega (arith, many, a, b);
       })
 

@@ -2,7 +2,7 @@
 use Rattle.std.specs.Prelude.{ℕ, ◌≡◌, ◌<◌, ◌≤◌, ◌+◌, ◌-◌, List, [], length, map, option_map}
 use Rattle.fc_values.specs.Types.{LocalType, TypeLocal}
 use Rattle.fc_nodes.specs.declared.nodes.Node.{Node}
-use Rattle.fc_nodes.specs.Terms.{Leaf, Literal, Variable, Sense, Uid, NbrLink, Term, Terms, Plain, Apply, Nbr, Evolve, If, Let, NoMore, More, type_of, size, Sort, OfLeaf, OfApply, OfNbr, OfEvolve, OfIf, OfLet, View, Has, view_at, term_at}
+use Rattle.fc_nodes.specs.Terms.{Leaf, Literal, Variable, Sense, Uid, NbrLink, Term, Terms, Plain, Apply, Nbr, Evolve, If, Let, NoMore, More, term_type, size, Sort, OfLeaf, OfApply, OfNbr, OfEvolve, OfIf, OfLet, View, Has, view_at, term_at}
 use Rattle.fc_nodes.specs.Typing.{HasType}
 use Rattle.fc_nodes.specs.Places.{StandsAt}
 use Rattle.fc_nodes.specs.Program.{Program}
@@ -50,7 +50,7 @@ IsLowered k ns ms = (i : ℕ) → i < length ms → view_at ms i ≡ option_map 
 pub record IsClosedTerm (P : Program) (p end : ℕ) : Type 0 where
   pub stands : StandsAt P.nodes p
   pub closed : HasType P.declared [] p (term_at P.nodes p)
-  pub local : (s : LocalType) × (type_of (term_at P.nodes p) ≡ TypeLocal s)
+  pub local : (s : LocalType) × (term_type (term_at P.nodes p) ≡ TypeLocal s)
   pub ends : end ≡ p + size (term_at P.nodes p)
   pub within : end ≤ length P.nodes
 

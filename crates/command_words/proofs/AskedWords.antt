@@ -2,7 +2,7 @@
 use Rattle.std.proofs.Common.{ℕ, ◌≡◌, ◌-◌, ◌≤◌, List, [], ◌∷◌, map, take, drop, length, get_or}
 use Rattle.std.proofs.Common.{sym, ap, ap₂, ◌∙◌, arith, Some}
 use Rattle.std.proofs.lemmas.List.{length-drop, take_all}
-use Rattle.command_words.specs.declared.choices.Name.{Name}
+use Rattle.command_words.specs.declared.choices.CommandName.{CommandName}
 use Rattle.command_words.specs.Options.{asked_of}
 use Rattle.command_words.specs.Settings.{settings_of}
 use Rattle.command_words.specs.Words.{asked, command_of, name_of}
@@ -31,7 +31,7 @@ command_is f (program ∷ name ∷ words) word some more is =
     ap₂ (λ w ws. asked (name_of (f w)) (settings_of (map f ws))) same second
 
 -- the same of the command that the word names
-pub asked_is : {A : Type 0} (f : A → List ℕ) (n : Name) (words : List A) (word : A) → 1 ≤ length words
+pub asked_is : {A : Type 0} (f : A → List ℕ) (n : CommandName) (words : List A) (word : A) → 1 ≤ length words
     → 1 ≤ length (behind words) → word ≡ get_or (behind words) 0 word → name_of (f word) ≡ Some n
     → asked_of n (map f (behind words)) ≡ command_of (map f words)
 asked_is f n [] word some more is named = absurd (omega (arith, some))

@@ -114,7 +114,7 @@ from_enough n ss = by_allowed (list_all (allows n) ss) (are_once ss) refl
     by_allowed true false all = tt
     by_allowed true true all = chosen_enough n ss all
 
-asked_enough : (n : Option Name) (ss : Option (List Setting)) → IfSome (asked n ss) IsCommand
+asked_enough : (n : Option CommandName) (ss : Option (List Setting)) → IfSome (asked n ss) IsCommand
 asked_enough None ss = tt
 asked_enough (Some n) None = tt
 asked_enough (Some n) (Some ss) = from_enough n ss

@@ -332,12 +332,12 @@ pub record Reads (name : Name) (app : App) (words : List (List ℕ)) (o : Option
   pub read : (k : Kind) → IsRead (matches_of app words) k (found k settings)
 
 -- what the settings are of which a command is made
-record AreSet (name : Name) (settings : List Setting) (c : Option Command) : Type 0 where
+record AreSet (name : CommandName) (settings : List Setting) (c : Option Command) : Type 0 where
   pub allowed : list_all (allows name) settings ≡ true
   pub once : are_once settings ≡ true
   pub is : c ≡ command_with name (λ k. found k settings)
 
-are_set : (name : Name) (settings : List Setting) → is_some (command_from name settings) ≡ true
+are_set : (name : CommandName) (settings : List Setting) → is_some (command_from name settings) ≡ true
     → AreSet name settings (command_from name settings)
 are_set name settings e = go (list_all (allows name) settings) (are_once settings) refl refl e
   where
@@ -348,7 +348,7 @@ are_set name settings e = go (list_all (allows name) settings) (are_once setting
     go true false p q h = cc
     go false b p q h = cc
 
-module _ (app : App) (name : Name) (offers : Offers app name) where
+module _ (app : App) (name : CommandName) (offers : Offers app name) where
   abbrev top : Shape
   top = (built app).top
 

@@ -149,7 +149,7 @@ cut_at word x xs e =
 
 joined_written : (word : List ℕ) (s : Setting) (o : Option Numbered) (n : Option ℕ)
     → option_of (before_first is_equals word) ≡ o → number_of (after_first is_equals word) ≡ n
-    → with_number o n ≡ Some s → IsWritten word s
+    → numbered_setting o n ≡ Some s → IsWritten word s
 joined_written word s (Some o) (Some n) p q e =
     let d = are_digits (after_first is_equals word) n q in
     record {
@@ -234,7 +234,7 @@ last_written word None (Some s) settings p e =
 more_written : (word next : List ℕ) (words : List (List ℕ)) (o : Option Numbered) (n : Option ℕ) (t : Option Setting)
     (later rest : Option (List Setting)) (settings : List Setting) → option_of word ≡ o → number_of next ≡ n
     → setting_of word ≡ t
-    → (if is_some o then before (with_number o n) later else before t rest) ≡ Some settings
+    → (if is_some o then before (numbered_setting o n) later else before t rest) ≡ Some settings
     → ((ss : List Setting) → later ≡ Some ss → AreWritten words ss)
     → ((ss : List Setting) → rest ≡ Some ss → AreWritten (next ∷ words) ss)
     → AreWritten (word ∷ next ∷ words) settings

@@ -38,11 +38,11 @@ all_offered Gen name = offers refl refl refl refl refl (λ rows. refl)
 all_offered Trace name = offers refl refl refl refl refl (λ rows. refl)
 all_offered Mail name = offers refl refl refl refl refl (λ rows. refl)
 
-pub are_simple : (n : Name) (name : List ℕ) → is_simple (options_of n name) ≡ true
+pub are_simple : (n : CommandName) (name : List ℕ) → is_simple (options_of n name) ≡ true
 are_simple n name = (all_offered n name).simple
 
 -- words that are inside are read as the choices that they ask for
-pub read_words : (n : Name) (name : List ℕ) (words : List (List ℕ)) → is_some (asked_of n words) ≡ true
+pub read_words : (n : CommandName) (name : List ℕ) (words : List (List ℕ)) → is_some (asked_of n words) ≡ true
     → Reads n (options_of n name) words (asked_of n words)
 read_words n name [] e = cc
 read_words n name (word ∷ words) e = reads_words (options_of n name) n (all_offered n name) word words e

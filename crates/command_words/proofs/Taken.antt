@@ -5,13 +5,13 @@ use Rattle.command_words.specs.declared.settings.Setting.{Setting}
 use Rattle.command_words.specs.declared.settings.Numbered.{Numbered}
 use Rattle.command_words.specs.declared.settings.Setting.TheVariants as set
 use Rattle.fc_values.specs.Numbers.{number_of}
-use Rattle.command_words.specs.Settings.{before, option_of, setting_of, settings_of, with_number}
+use Rattle.command_words.specs.Settings.{before, option_of, setting_of, settings_of, numbered_setting}
 
 -- the settings of the words, of which the first is the number of an option where one waits for it
 abbrev pub settings_after : Option Numbered → List (List ℕ) → Option (List Setting)
 settings_after None words = settings_of words
 settings_after (Some option) [] = None
-settings_after (Some option) (word ∷ words) = before (with_number (Some option) (number_of word)) (settings_of words)
+settings_after (Some option) (word ∷ words) = before (numbered_setting (Some option) (number_of word)) (settings_of words)
 
 -- the same after those that are read
 abbrev pub all_from : List Setting → Option Numbered → List (List ℕ) → Option (List Setting)
@@ -34,7 +34,7 @@ pub numbered : (read pushed : List Setting) (option : Numbered) (value : ℕ) (w
     → pushed ≡ read ++ set.Option option value ∷ [] → all_from pushed None words ≡ all_from read (Some option) left
 numbered read pushed option value word left words e n p =
     ap (λ r. all_from r None words) p ∙ moved read (set.Option option value) (settings_of words)
-    ∙ ap (λ m. option_map (λ more. read ++ more) (before (with_number (Some option) m) (settings_of words))) n
+    ∙ ap (λ m. option_map (λ more. read ++ more) (before (numbered_setting (Some option) m) (settings_of words))) n
     ∙ ap (all_from read (Some option)) (sym e)
 
 -- an option's name makes it wait

@@ -48,7 +48,7 @@ unfoldable pub options_of : Name → List ℕ → App
 options_of name word = fold with_rule (plain_app word) (map rule_for (taken name))
 
 -- the command of this name that the words ask for, of which the command's is the first
-abbrev pub asked_of : Name → List (List ℕ) → Option Command
+abbrev pub asked_of : CommandName → List (List ℕ) → Option Command
 asked_of name [] = None
 asked_of name (word ∷ words) = asked (Some name) (settings_of words)
 

@@ -53,17 +53,17 @@ unfoldable pub option_of : List ℕ → Option Numbered
 option_of word = find (λ option. bytes_eq (hyphened (option_name option)) word) all_options
 
 -- an option with its number, if both are there
-abbrev pub with_number : Option Numbered → Option ℕ → Option Setting
-with_number (Some option) (Some n) = Some (set.Option option n)
-with_number (Some option) None = None
-with_number None number = None
+abbrev pub numbered_setting : Option Numbered → Option ℕ → Option Setting
+numbered_setting (Some option) (Some n) = Some (set.Option option n)
+numbered_setting (Some option) None = None
+numbered_setting None number = None
 
 abbrev pub is_equals : ℕ → Bool
 is_equals byte = byte == 61
 
 -- an option with `=` and its number in one word, as `--workers=4`
 abbrev pub attached : List ℕ → Option Setting
-attached word = with_number (option_of (before_first is_equals word)) (number_of (after_first is_equals word))
+attached word = numbered_setting (option_of (before_first is_equals word)) (number_of (after_first is_equals word))
 
 -- what one word sets: a flag, an option with its number, or a number that stands alone
 abbrev pub setting_of : List ℕ → Option Setting
@@ -83,7 +83,7 @@ settings_of [] = Some []
 settings_of (word ∷ []) = if is_some (option_of word) then None else before (setting_of word) (Some [])
 settings_of (word ∷ next ∷ words) =
     if is_some (option_of word)
-    then before (with_number (option_of word) (number_of next)) (settings_of words)
+    then before (numbered_setting (option_of word) (number_of next)) (settings_of words)
     else before (setting_of word) (settings_of (next ∷ words))
 
 -- ---- what is set

@@ -21,7 +21,7 @@ use Rattle.command_words.specs.Commands.{IsCommand, start_asked, start_from}
 use Rattle.command_words.specs.Settings.{are_once, found, id_of, kind_of, number_in, settings_of}
 
 -- the command that a word names
-abbrev pub name_of : List ℕ → Option Name
+abbrev pub name_of : List ℕ → Option CommandName
 name_of word =
     if bytes_eq word (codes "check") then Some Check else
     if bytes_eq word (codes "stable") then Some Stable else
@@ -100,7 +100,7 @@ abbrev pub command_from : Name → List Setting → Option Command
 command_from name settings =
     if list_all (allows name) settings && are_once settings then command_with name (λ kind. found kind settings) else None
 
-abbrev pub asked : Option Name → Option (List Setting) → Option Command
+abbrev pub asked : Option CommandName → Option (List Setting) → Option Command
 asked (Some name) (Some settings) = command_from name settings
 asked (Some name) None = None
 asked None settings = None

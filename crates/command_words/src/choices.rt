@@ -15,7 +15,7 @@ use crate::settings::{Flag, Kind, Numbered, Setting, are_once, found};
 
 /// The name of a command.
 #[derive(Clone, Copy, Debug, PartialEq, Eq)]
-pub enum Name {
+pub enum CommandName {
     Check,
     Stable,
     Run,
@@ -27,32 +27,32 @@ pub enum Name {
 }
 
 /// The command that a word names.
-pub fn named(word: &str) -> Option<Name>
+pub fn named(word: &str) -> Option<CommandName>
     ensures { result ≡ name_of word.now }
 {
     if word == "check" {
-        return Some(Name::Check);
+        return Some(CommandName::Check);
     }
     if word == "stable" {
-        return Some(Name::Stable);
+        return Some(CommandName::Stable);
     }
     if word == "run" {
-        return Some(Name::Run);
+        return Some(CommandName::Run);
     }
     if word == "replay" {
-        return Some(Name::Replay);
+        return Some(CommandName::Replay);
     }
     if word == "format" {
-        return Some(Name::Format);
+        return Some(CommandName::Format);
     }
     if word == "gen" {
-        return Some(Name::Gen);
+        return Some(CommandName::Gen);
     }
     if word == "trace" {
-        return Some(Name::Trace);
+        return Some(CommandName::Trace);
     }
     if word == "mail" {
-        return Some(Name::Mail);
+        return Some(CommandName::Mail);
     }
     None
 }
@@ -207,7 +207,7 @@ pub fn chosen<F: Fn(Kind) -> Option<Setting>>(name: Name, find: F) -> Option<Com
 }
 
 // Whether a command takes each of the settings.
-fn takes_all(name: Name, settings: &[Setting]) -> bool
+fn takes_all(name: CommandName, settings: &[Setting]) -> bool
     ensures { result ≡ list_all (allows name) settings.now }
 {
     settings.iter().all(|setting| allowed(name, *setting))

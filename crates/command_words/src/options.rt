@@ -76,7 +76,7 @@ fn options<'a>(alloc: Global, name: Name, word: &'a str) -> Result<Command<'a>, 
 // The words begin with the command's. They ask for a command, so the parse fails for memory alone.
 fn matches<'a>(
     alloc: Global,
-    name: Name,
+    name: CommandName,
     word: &'a str,
     words: &'a [String],
 ) -> Result<ArgMatches<'a>, Error>

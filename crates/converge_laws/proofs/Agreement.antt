@@ -11,7 +11,7 @@ use Rattle.topology.specs.Networks.{Network, near}
 use Rattle.interval_facts.specs.Solutions.{Devices, In, ValueMap, ValueMaps, bind, near_among, field_of, where_is, LeafIs}
 use Rattle.fc_nodes.specs.Variables.{occurs, occurs_in}
 use Rattle.converge_laws.proofs.Near.{AllSet, all_set}
-use Rattle.topology.specs.Nearby.{near_numbers}
+use Rattle.topology.specs.Nearby.{neighbour_numbers}
 
 -- the maps of the binders that occur agree
 abbrev pub AgreeFor : Devices → Term → ValueMaps → ValueMaps → Type 0
@@ -49,7 +49,7 @@ module _ (N : Network) where
 
   pub leaf_same : (D : Devices) (l : Leaf) (V W : ValueMaps) (d : ℕ) (v w : AnyValue) → ((q : ℕ) → l ≡ Variable q → V q d ≡ W q d) → LeafIs N D l V d v → LeafIs N D l W d w → v ≡ w
   leaf_same D (Literal x) V W d v w e h k = h ∙ sym k
-  leaf_same D (Variable q) V W d v w e h k = h ∙ ap (restricted d (near_numbers (near_among N D d))) (e q refl) ∙ sym k
+  leaf_same D (Variable q) V W d v w e h k = h ∙ ap (restricted d (neighbour_numbers (near_among N D d))) (e q refl) ∙ sym k
   leaf_same D (Sense i) V W d v w e h k = let a = h.1 in let b = k.1 in let same : h.0 ≡ k.0 = cc in h.2 ∙ ap ValueLocal same ∙ sym k.2
   leaf_same D Uid V W d v w e h k = h ∙ sym k
   leaf_same D NbrLink V W d v w e h k = h ∙ sym k

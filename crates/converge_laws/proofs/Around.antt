@@ -5,7 +5,7 @@ use Rattle.std.proofs.lemmas.Bool.Decides.{nat_tests}
 use Rattle.fc_values.specs.Types.{LocalType, BoolType, ValueType, TypeLocal, TypeField}
 use Rattle.fc_values.specs.Values.{LocalValue, IntValue, BoolValue, PairValue, Fits}
 use Rattle.fc_values.specs.Fields.{AnyValue, ValueLocal, ValueField, devices, Rises, AllFit, FitsOver, with_number, is_in}
-use Rattle.fc_nodes.specs.Terms.{Term, Plain, Apply, Nbr, Evolve, If, Let, type_of}
+use Rattle.fc_nodes.specs.Terms.{Term, Plain, Apply, Nbr, Evolve, If, Let, term_type}
 use Rattle.fc_nodes.specs.Typing.{Scope, type_at}
 use Rattle.topology.specs.Networks.{Network, numbers, near, IsNetwork}
 use Rattle.fc_values.proofs.Numbers.{Part, part_none, part_skip, part_keep, rises_with, rises_part, not_in_part, still_stays}
@@ -15,27 +15,27 @@ use Rattle.topology.proofs.Lemmas.{AllNear, near_rises, near_fits}
 use Rattle.interval_facts.specs.Solutions.{Devices, In, ValueMap, ValueMaps, bind, near_among, around, FitsOn, field_of, where_is, Solves}
 use Rattle.converge_laws.proofs.Near.{in_part}
 use Rattle.device_eval.specs.Conditions.{VariableFits}
-use Rattle.topology.specs.Nearby.{near_numbers}
+use Rattle.topology.specs.Nearby.{neighbour_numbers}
 
 abbrev pub heard_in : Network → Devices → ℕ → List ℕ
-heard_in N D d = near_numbers (near_among N D d)
+heard_in N D d = neighbour_numbers (near_among N D d)
 
 -- some of the numbers
-pub parted : (p q : ℕ × ℕ → Bool) → ((n : ℕ × ℕ) → p n ≡ true → q n ≡ true) → (ns : List (ℕ × ℕ)) → Part (near_numbers (filter p ns)) (near_numbers (filter q ns))
+pub parted : (p q : ℕ × ℕ → Bool) → ((n : ℕ × ℕ) → p n ≡ true → q n ≡ true) → (ns : List (ℕ × ℕ)) → Part (neighbour_numbers (filter p ns)) (neighbour_numbers (filter q ns))
 parted p q f [] = part_none
 parted p q f (n ∷ ns) = by_tests (p n) (q n) refl refl (parted p q f ns)
   where
-    by_tests : (b c : Bool) → p n ≡ b → q n ≡ c → Part (near_numbers (filter p ns)) (near_numbers (filter q ns)) → Part (near_numbers (filter p (n ∷ ns))) (near_numbers (filter q (n ∷ ns)))
+    by_tests : (b c : Bool) → p n ≡ b → q n ≡ c → Part (neighbour_numbers (filter p ns)) (neighbour_numbers (filter q ns)) → Part (neighbour_numbers (filter p (n ∷ ns))) (neighbour_numbers (filter q (n ∷ ns)))
     by_tests true true i k r = rw (i, k) (part_keep n.0 r)
     by_tests true false i k r = let k' = f n i in absurd cc
     by_tests false true i k r = rw (i, k) (part_skip n.0 r)
     by_tests false false i k r = rw (i, k) r
 
-pub all_part : (ns : List (ℕ × ℕ)) (q : ℕ × ℕ → Bool) → Part (near_numbers (filter q ns)) (near_numbers ns)
+pub all_part : (ns : List (ℕ × ℕ)) (q : ℕ × ℕ → Bool) → Part (neighbour_numbers (filter q ns)) (neighbour_numbers ns)
 all_part [] q = part_none
 all_part (n ∷ ns) q = by_test (q n) refl (all_part ns q)
   where
-    by_test : (b : Bool) → q n ≡ b → Part (near_numbers (filter q ns)) (near_numbers ns) → Part (near_numbers (filter q (n ∷ ns))) (near_numbers (n ∷ ns))
+    by_test : (b : Bool) → q n ≡ b → Part (neighbour_numbers (filter q ns)) (neighbour_numbers ns) → Part (neighbour_numbers (filter q (n ∷ ns))) (neighbour_numbers (n ∷ ns))
     by_test true i r = rw i (part_keep n.0 r)
     by_test false i r = rw i (part_skip n.0 r)
 
@@ -43,7 +43,7 @@ pub entries_fit : (m : ℕ) (s : LocalType) (f : ℕ × ℕ → LocalValue) → 
 entries_fit m s f h [] = tt
 entries_fit m s f h (n ∷ ms) = (h n, entries_fit m s f h ms)
 
-pub entries_over : (f : ℕ × ℕ → LocalValue) (ms : List (ℕ × ℕ)) → devices (map (λ (n : ℕ × ℕ). (n.0, f n)) ms) ≡ near_numbers ms
+pub entries_over : (f : ℕ × ℕ → LocalValue) (ms : List (ℕ × ℕ)) → devices (map (λ (n : ℕ × ℕ). (n.0, f n)) ms) ≡ neighbour_numbers ms
 entries_over f [] = refl
 entries_over f (n ∷ ms) = ap (λ (ns : List ℕ). n.0 ∷ ns) (entries_over f ms)
 
@@ -78,7 +78,7 @@ module _ (N : Network) (net : IsNetwork N) where
   pub near_up : (D : Devices) (d : ℕ) → Rises (heard_in N D d)
   near_up D d = rises_part (all_part (near N d) (λ n. D n.0)) (near_rises N.declared (numbers N.devices) d N.links net.links)
 
-  pub not_among : (d : ℕ) (ns : List (ℕ × ℕ)) → AllNear N.declared (numbers N.devices) d ns → is_in d (near_numbers ns) ≡ false
+  pub not_among : (d : ℕ) (ns : List (ℕ × ℕ)) → AllNear N.declared (numbers N.devices) d ns → is_in d (neighbour_numbers ns) ≡ false
   not_among d [] h = refl
   not_among d (n ∷ ns) h =
       let other : n.0 ≢ d = h.0.other in
@@ -130,7 +130,7 @@ module _ (N : Network) (net : IsNetwork N) where
     fit_with M s d (f d) (map (λ (n : ℕ × ℕ). (n.0, f n.0)) (near_among N D d)) (h d) (entries_fit M s (λ n. f n.0) (λ n. h n.0) (near_among N D d)),
   )
 
-  pub solution_fits : (t : Term) (p : ℕ) (D : Devices) (V : ValueMaps) (F : ValueMap) → Solves N p t D V F → FitsOn N D (type_of t) F
+  pub solution_fits : (t : Term) (p : ℕ) (D : Devices) (V : ValueMaps) (F : ValueMap) → Solves N p t D V F → FitsOn N D (term_type t) F
   solution_fits (Plain t l) p D V F s = s.0
   solution_fits (Apply t o xs) p D V F s = s.0
   solution_fits (Nbr t a) p D V F s = s.0

@@ -13,7 +13,7 @@ use Rattle.fc_values.specs.Positions.{argument_nth}
 use Rattle.fc_values.proofs.Numbers.{EachOf}
 use Rattle.fc_nodes.specs.Terms.{Evolution, Term, Terms, Plain, Apply, Nbr, Evolve, If, Let, NoMore, More, size}
 use Rattle.topology.specs.Networks.{Network, Lives, numbers, near, IsNetwork}
-use Rattle.topology.specs.Nearby.{near_numbers}
+use Rattle.topology.specs.Nearby.{neighbour_numbers}
 use Rattle.topology.proofs.Lemmas.{AllNear, near_fits}
 use Rattle.interval_facts.specs.Ranges.{RangeValue, IntRange, BoolRange, PairRange, LiesIn}
 use Rattle.interval_facts.specs.Solutions.{Devices, In, ValueMap, ValueMaps, near_among, around, at_device, field_of, Solves, SolveAll}
@@ -59,11 +59,11 @@ module _ (N : Network) (net : IsNetwork N) (D : Devices) where
   abbrev pub IsThere : ℕ → Type 0
   IsThere n = In D n × Lives N n
 
-  each_near : (d : ℕ) (ns : List (ℕ × ℕ)) → AllNear N.declared (numbers N.devices) d ns → EachOf IsThere (near_numbers (filter (λ (n : ℕ × ℕ). D n.0) ns))
+  each_near : (d : ℕ) (ns : List (ℕ × ℕ)) → AllNear N.declared (numbers N.devices) d ns → EachOf IsThere (neighbour_numbers (filter (λ (n : ℕ × ℕ). D n.0) ns))
   each_near d [] a = tt
   each_near d (n ∷ ns) a = by_test (D n.0) refl (each_near d ns a.1)
     where
-      by_test : (c : Bool) → D n.0 ≡ c → EachOf IsThere (near_numbers (filter (λ (k : ℕ × ℕ). D k.0) ns)) → EachOf IsThere (near_numbers (filter (λ (k : ℕ × ℕ). D k.0) (n ∷ ns)))
+      by_test : (c : Bool) → D n.0 ≡ c → EachOf IsThere (neighbour_numbers (filter (λ (k : ℕ × ℕ). D k.0) ns)) → EachOf IsThere (neighbour_numbers (filter (λ (k : ℕ × ℕ). D k.0) (n ∷ ns)))
       by_test true i h = rw i ((i, a.0.there), h)
       by_test false i h = rw i h
 
@@ -71,7 +71,7 @@ module _ (N : Network) (net : IsNetwork N) (D : Devices) where
   abbrev IsEntry : (ℕ → LocalValue) → ℕ → ℕ → LocalValue → LocalValue → Type 0
   IsEntry g d n v w = (v ≡ g n) × ((n ≡ d) ⊎ IsThere n)
 
-  pairs_each : (g : ℕ → LocalValue) (d : ℕ) (ms : List (ℕ × ℕ)) → EachOf IsThere (near_numbers ms) → Pairs (IsEntry g d) (map (λ (m : ℕ × ℕ). (m.0, g m.0)) ms) (map (λ (m : ℕ × ℕ). (m.0, g m.0)) ms)
+  pairs_each : (g : ℕ → LocalValue) (d : ℕ) (ms : List (ℕ × ℕ)) → EachOf IsThere (neighbour_numbers ms) → Pairs (IsEntry g d) (map (λ (m : ℕ × ℕ). (m.0, g m.0)) ms) (map (λ (m : ℕ × ℕ). (m.0, g m.0)) ms)
   pairs_each g d [] a = tt
   pairs_each g d (m ∷ ms) a = (refl, (refl, inr a.0), pairs_each g d ms a.1)
 
@@ -93,7 +93,7 @@ module _ (N : Network) (net : IsNetwork N) (D : Devices) where
     own_is : (p : ℕ) (G : ValueMap) → Solves N p (int_of q) D W G → (n : ℕ) → In D n → G n ≡ ValueLocal (IntValue (potential n))
     own_is p G s n i =
         let b = local_back M (around N D n) (TypeLocal IntType) IntType (G n) refl (s.0 n i) in
-        b.0 ∙ ap ValueLocal (variable_is n (near_numbers (near_among N D n)) (W q n) M (local_in (G n)) b.1 (sym b.0 ∙ s.1 n i))
+        b.0 ∙ ap ValueLocal (variable_is n (neighbour_numbers (near_among N D n)) (W q n) M (local_in (G n)) b.1 (sym b.0 ∙ s.1 n i))
 
     -- the comparison at each position
     pub compared_is : (p : ℕ) (u v : ValueType) (G : ValueMap) → Solves N p (comparing q u v) D W G → (d : ℕ) → In D d → (i : ℕ) → i < length (around N D d) → IsCompared d (get_or (around N D d) i 0) (argument_nth i (G d))
@@ -110,7 +110,7 @@ module _ (N : Network) (net : IsNetwork N) (D : Devices) where
             let entry = field_entry g d v i (subst (FitsOver M (around N D d) v) a (z.0.0 d j)) l in
             let n = get_or (around N D d) i 0 in
             let inside : In D n = there entry.1 in
-            let value : g n ≡ IntValue (potential n) = variable_is n (near_numbers (near_among N D n)) (W q n) M (g n) (z.0.2.0 n inside) (z.0.2.1 n inside) in
+            let value : g n ≡ IntValue (potential n) = variable_is n (neighbour_numbers (near_among N D n)) (W q n) M (g n) (z.0.2.0 n inside) (z.0.2.1 n inside) in
             let first : argument_nth i (A d) ≡ IntValue (potential n) = ap (argument_nth i) a ∙ entry.0 ∙ value in
             let second : argument_nth i (B d) ≡ IntValue (potential d) = ap (argument_nth i) b in
             let h = (pointwise_nth op.Less M d (A d ∷ B d ∷ []) (G d) refl e).each i (within_of M (around N D d) u (G d) i (s.0 d j) l) in

@@ -5,7 +5,7 @@ use Rattle.fc_values.specs.BuiltinTypes.{inner}
 use Rattle.fc_values.specs.Values.{LocalValue, Fits}
 use Rattle.fc_values.specs.Fields.{AnyValue, ValueLocal, FitsOver}
 use Rattle.fc_values.specs.Trees.{Tree}
-use Rattle.fc_nodes.specs.Terms.{Evolution, ByRep, Term, Evolve, type_of, size}
+use Rattle.fc_nodes.specs.Terms.{Evolution, ByRep, Term, Evolve, term_type, size}
 use Rattle.alignment.specs.Environments.{Env}
 use Rattle.alignment.specs.Scopes.{Vars}
 use Rattle.topology.specs.Networks.{Network, IsNetwork}
@@ -64,7 +64,7 @@ module _ (A : Analysis) (N : Network) (d j : ℕ) (t : ValueType) (e : Evolution
 
   -- the growth of the body
   abbrev pub Grows : Type 0
-  Grows = (k : ℕ) (x w : LocalValue) → Beside m d (around N D d) e p (FieldPair (λ n y z. Close k y z × (z ≡ s.1 n))) Part at u (ValueLocal x) (ValueLocal w) → Close (min m (k + c)) x w × FitsOver m (around N D d) (type_of u) (ValueLocal x)
+  Grows = (k : ℕ) (x w : LocalValue) → Beside m d (around N D d) e p (FieldPair (λ n y z. Close k y z × (z ≡ s.1 n))) Part at u (ValueLocal x) (ValueLocal w) → Close (min m (k + c)) x w × FitsOver m (around N D d) (term_type u) (ValueLocal x)
 
   parts : (q : ℕ) (h : Term) (G : ValueMap) (z : Solves N q h D W G) → InRanges A.ranges N q h D W G z → Part q h (G d)
   parts q h G z rr = (solution_fits N net h q D W G z d g.inside, lies_of A.ranges N q h D W G z rr d g.inside)
@@ -92,13 +92,13 @@ module _ (A : Analysis) (N : Network) (d j : ℕ) (t : ValueType) (e : Evolution
           let l' : y.base + i * (1 + 1) + 0 ≤ suc j = subst (λ z. y.base + i * (1 + z) + 0 ≤ suc j) lag l in
           omega (arith, l', q)
 
-  body_fits : Grows → y.base ≤ suc j → FitsOver m (around N D d) (type_of u) (ValueLocal r.result)
+  body_fits : Grows → y.base ≤ suc j → FitsOver m (around N D d) (term_type u) (ValueLocal r.result)
   body_fits grows l =
       let z = seen_by (λ n y z. Close 0 y z × (z ≡ s.1 n)) (λ n x z h. (inr (omega arith, omega arith), refl)) (λ q n x z h. (inr (omega arith, omega arith), refl)) in
       (grows 0 r.result (s.1 d) (z.0 l)).1
 
   -- as many stages as there are reach the solution
-  pub climb_raised : Grows → A.stages p ≡ (top / c) * (1 + y.lag) → ((x : LocalValue) → x ≡ r.result → FitsOver m (around N D d) (type_of u) (ValueLocal x) → Close (min m (suc (top / c) * c)) x (s.1 d) → x ≡ s.1 d)
+  pub climb_raised : Grows → A.stages p ≡ (top / c) * (1 + y.lag) → ((x : LocalValue) → x ≡ r.result → FitsOver m (around N D d) (term_type u) (ValueLocal x) → Close (min m (suc (top / c) * c)) x (s.1 d) → x ≡ s.1 d)
       → BodyRaised A N d j t e a u p b st lv D V F s vars env v tree cl g r
   climb_raised grows stages exact = record {
     value = λ l. exact r.result refl (body_fits grows (omega (arith, l, stages))) (body_close grows (top / c) (omega (arith, l, stages)));

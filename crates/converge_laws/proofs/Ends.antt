@@ -11,7 +11,7 @@ use Rattle.fc_values.specs.BuiltinTypes.{inner}
 use Rattle.fc_nodes.specs.Terms.{Leaf, Literal, Variable, Sense, Uid, NbrLink, Term, Terms, Plain, Apply, Nbr, Evolve, If, Let, NoMore, More, size}
 use Rattle.fc_nodes.specs.Typing.{Scope, LeafHasType, HasType, HaveTypes}
 use Rattle.fc_nodes.specs.Program.{IsLawful, InputsAreLawful, InputIsLawful}
-use Rattle.interval_facts.specs.Ranges.{RangeValue, IntRange, BoolRange, PairRange, full, hull, least_range, greatest_range, least_hood, greatest_hood, both_ends, difference, first_range, second_range, of_one, of_two, of_three, sum_cut, product_cut, builtin_range, Bounds, bound_at, input_range, sense_range, leaf_range, term_range, term_ranges, node_ranges, all_node_ranges}
+use Rattle.interval_facts.specs.Ranges.{RangeValue, IntRange, BoolRange, PairRange, full, hull, least_range, greatest_range, least_hood, greatest_hood, both_ends, difference, first_range, second_range, range_of_one, range_of_two, range_of_three, sum_cut, product_cut, builtin_range, Bounds, binding_range, input_range, sense_range, leaf_range, term_range, term_ranges, node_ranges, all_node_ranges}
 use Rattle.growth_facts.specs.Leads.{greatest_integer}
 
 module _ (m : ℕ) where
@@ -111,18 +111,18 @@ module _ (m : ℕ) where
     second_within (IntRange a b) h = free
     second_within BoolRange h = free
 
-    one_within : (f : RangeValue → RangeValue) → ((r : RangeValue) → Within r → Within (f r)) → (rs : List RangeValue) → AllWithin rs → Within (of_one f other rs)
+    one_within : (f : RangeValue → RangeValue) → ((r : RangeValue) → Within r → Within (f r)) → (rs : List RangeValue) → AllWithin rs → Within (range_of_one f other rs)
     one_within f g (r ∷ []) h = g r h.0
     one_within f g [] h = free
     one_within f g (r ∷ s ∷ rs) h = free
 
-    two_within : (f : RangeValue → RangeValue → RangeValue) → ((r s : RangeValue) → Within r → Within s → Within (f r s)) → (rs : List RangeValue) → AllWithin rs → Within (of_two f other rs)
+    two_within : (f : RangeValue → RangeValue → RangeValue) → ((r s : RangeValue) → Within r → Within s → Within (f r s)) → (rs : List RangeValue) → AllWithin rs → Within (range_of_two f other rs)
     two_within f g (r ∷ s ∷ []) h = g r s h.0 h.1.0
     two_within f g [] h = free
     two_within f g (r ∷ []) h = free
     two_within f g (r ∷ s ∷ u ∷ rs) h = free
 
-    three_within : (f : RangeValue → RangeValue → RangeValue → RangeValue) → ((r s u : RangeValue) → Within r → Within s → Within u → Within (f r s u)) → (rs : List RangeValue) → AllWithin rs → Within (of_three f other rs)
+    three_within : (f : RangeValue → RangeValue → RangeValue → RangeValue) → ((r s u : RangeValue) → Within r → Within s → Within u → Within (f r s u)) → (rs : List RangeValue) → AllWithin rs → Within (range_of_three f other rs)
     three_within f g (r ∷ s ∷ u ∷ []) h = g r s u h.0 h.1.0 h.1.1.0
     three_within f g [] h = free
     three_within f g (r ∷ []) h = free
@@ -152,11 +152,11 @@ module _ (m : ℕ) where
     builtin_within op.AnyHood rs h = tt
     builtin_within op.AllHood rs h = tt
 
-    bound_within : (n : ℕ) (bs : Bounds) → BoundsWithin bs → Within (bound_at other n bs)
+    bound_within : (n : ℕ) (bs : Bounds) → BoundsWithin bs → Within (binding_range other n bs)
     bound_within n [] h = free
     bound_within n (b ∷ bs) h = by_test (nat_eq b.0 n) (bound_within n bs h.1)
       where
-        by_test : (c : Bool) → Within (bound_at other n bs) → Within (if c then b.1 else bound_at other n bs)
+        by_test : (c : Bool) → Within (binding_range other n bs) → Within (if c then b.1 else binding_range other n bs)
         by_test true k = h.0
         by_test false k = k
 

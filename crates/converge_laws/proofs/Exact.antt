@@ -6,7 +6,7 @@ use Rattle.fc_values.specs.Values.{LocalValue, IntValue, BoolValue, PairValue, F
 use Rattle.fc_values.specs.Fields.{Entries, ValueLocal, ValueField, AllFit, FitsOver}
 use Rattle.fc_values.specs.Builtins.{others, least_of, builtin_value}
 use Rattle.fc_values.specs.BuiltinTypes.{inner, HasRule, folds_min}
-use Rattle.fc_nodes.specs.Terms.{Evolution, Term, Apply, NoMore, More, type_of, size}
+use Rattle.fc_nodes.specs.Terms.{Evolution, Term, Apply, NoMore, More, term_type, size}
 use Rattle.topology.specs.Networks.{Network, IsNetwork}
 use Rattle.interval_facts.specs.Ranges.{RangeValue, IntRange, BoolRange, PairRange, InRange, LiesIn}
 use Rattle.interval_facts.specs.Solutions.{Devices, In, ValueMap, ValueMaps, around, at_device, Solves, SolveAll}
@@ -16,7 +16,7 @@ use Rattle.growth_facts.specs.Leads.{lead, Close, leads, greatest_integer}
 use Rattle.growth_facts.specs.Growth.{Grows, growth_of}
 use Rattle.growth_facts.specs.Beside.{Shallow}
 use Rattle.growth_facts.proofs.Closeness.{fits_form, lesser_lead}
-use Rattle.fragment_check.specs.Patterns.{is_pair}
+use Rattle.fragment_check.specs.Patterns.{is_pair_range}
 use Rattle.converge_laws.proofs.Around.{solution_fits}
 use Rattle.converge_laws.proofs.Leading.{lead_most, grows_leads}
 use Rattle.converge_laws.proofs.Minimise.{hood_is, lesser_fits}
@@ -34,7 +34,7 @@ least_low m d s (x ∷ es) l h f =
 
 -- the bound past the greatest value
 pub exact : (m c : ℕ) (s : LocalType) (r : RangeValue) (own x w : LocalValue) → leads s ≡ true → Fits m s own → InRange r own → Fits m s x → Fits m s w → lead w ≤ lead own → greatest_integer r ≤ m
-    → (is_pair r ≡ true → greatest_integer r ≡ m → ⊥) → 1 ≤ c → Close (min m (suc (greatest_integer r / c) * c)) x w → x ≡ w
+    → (is_pair_range r ≡ true → greatest_integer r ≡ m → ⊥) → 1 ≤ c → Close (min m (suc (greatest_integer r / c) * c)) x w → x ≡ w
 exact m c s r own x w k fo io fx fw l top pair pos (inl e) = e
 exact m c IntType r own (IntValue a) (IntValue b) k fo io fx fw l top pair pos (inr h) =
     let most = lead_most m IntType r own k fo io in
@@ -47,11 +47,11 @@ exact m c IntType r own (IntValue a) (PairValue u v) k fo io fx fw l top pair po
 exact m c BoolType r own x w k fo io fx fw l top pair pos (inr h) = absurd cc
 exact m c (PairType s t) r own x w k fo io fx fw l top pair pos (inr h) =
     let most = lead_most m (PairType s t) r own k fo io in
-    let p : is_pair r ≡ true = pair_range r own fo io in
+    let p : is_pair_range r ≡ true = pair_range r own fo io in
     let less : greatest_integer r < m = strictly (pair p) in
     absurd (omega (arith, h.1, l, most, less, pos))
   where
-    pair_range : (r : RangeValue) (v : LocalValue) → Fits m (PairType s t) v → InRange r v → is_pair r ≡ true
+    pair_range : (r : RangeValue) (v : LocalValue) → Fits m (PairType s t) v → InRange r v → is_pair_range r ≡ true
     pair_range (PairRange a b) v f i = refl
     pair_range (IntRange a b) (PairValue u v) f i = absurd i
     pair_range BoolRange (PairValue u v) f i = absurd i
@@ -70,7 +70,7 @@ int_type m (PairType k k') (PairValue z z') q f = absurd cc
 int_type m (PairType k k') (IntValue n) q f = absurd f
 int_type m (PairType k k') (BoolValue n) q f = absurd f
 
-not_pair : (m : ℕ) (k : RangeValue) (x : LocalValue) → Fits m IntType x → InRange k x → is_pair k ≡ true → ⊥
+not_pair : (m : ℕ) (k : RangeValue) (x : LocalValue) → Fits m IntType x → InRange k x → is_pair_range k ≡ true → ⊥
 not_pair m (IntRange z z') x f q k = absurd cc
 not_pair m BoolRange x f q k = absurd cc
 not_pair m (PairRange k k') (IntValue n) f q z = absurd q
@@ -108,7 +108,7 @@ module _ (N : Network) (net : IsNetwork N) (rs : ℕ → RangeValue) (D : Device
     pub lies : InRange r own
     pub most : lead v ≤ lead own
 
-  pub hood_top : (p : ℕ) (t : ValueType) (h l : Term) (s : LocalType) (G : ValueMap) → type_of h ≡ TypeField s → type_of l ≡ TypeLocal s → (z : Solves N p (Apply t op.MinHoodLoc (More h (More l NoMore))) D W G)
+  pub hood_top : (p : ℕ) (t : ValueType) (h l : Term) (s : LocalType) (G : ValueMap) → term_type h ≡ TypeField s → term_type l ≡ TypeLocal s → (z : Solves N p (Apply t op.MinHoodLoc (More h (More l NoMore))) D W G)
       → InRanges rs N p (Apply t op.MinHoodLoc (More h (More l NoMore))) D W G z → (d : ℕ) → In D d → (v : LocalValue) → G d ≡ ValueLocal v → HasTop s (rs (suc p + size h)) v
   hood_top p t h l s G th tl z r d i v e = by_maps z.1 z.2 r.1 (z.3 d i ∙ ap Some e)
     where
@@ -131,14 +131,14 @@ module _ (N : Network) (net : IsNetwork N) (rs : ℕ → RangeValue) (D : Device
 
   -- so the last stage of a minimising body is the solution
   pub last_stage : (e : Evolution) (x p c : ℕ) (t : ValueType) (h l : Term) (s : LocalType) (G : ValueMap) → Shallow e x s (Apply t op.MinHoodLoc (More h (More l NoMore))) → occurs x (Apply t op.MinHoodLoc (More h (More l NoMore))) ≡ true → occurs x l ≡ false
-      → growth_of M rs e x (suc p) h ≡ Grows c → 1 ≤ c → greatest_integer (rs (suc p + size h)) ≤ M → (is_pair (rs (suc p + size h)) ≡ true → greatest_integer (rs (suc p + size h)) ≡ M → ⊥)
+      → growth_of M rs e x (suc p) h ≡ Grows c → 1 ≤ c → greatest_integer (rs (suc p + size h)) ≤ M → (is_pair_range (rs (suc p + size h)) ≡ true → greatest_integer (rs (suc p + size h)) ≡ M → ⊥)
       → (z : Solves N p (Apply t op.MinHoodLoc (More h (More l NoMore))) D W G) → InRanges rs N p (Apply t op.MinHoodLoc (More h (More l NoMore))) D W G z → (d : ℕ) → In D d → (a v : LocalValue) → FitsOver M (around N D d) t (ValueLocal a)
       → G d ≡ ValueLocal v → Close (min M (suc (greatest_integer (rs (suc p + size h)) / c) * c)) a v → a ≡ v
   last_stage e x p c t h l s G sh occ o gr pos top pair z r d i a v fa q close =
-      let types = hood_types (type_of h ∷ type_of l ∷ []) t sh.0 in
-      let two = head_of (type_of h) (type_of l) (TypeField types.of) (TypeLocal types.of) [] [] types.arguments in
+      let types = hood_types (term_type h ∷ term_type l ∷ []) t sh.0 in
+      let two = head_of (term_type h) (term_type l) (TypeField types.of) (TypeLocal types.of) [] [] types.arguments in
       let k = hood_top p t h l types.of G two.0 two.1 z r d i v q in
-      let led : leads (inner (type_of h)) ≡ true = grows_leads M rs e x s h (suc p) c sh.1.0 (in_first (occurs x h) (occurs x l) occ o) gr in
+      let led : leads (inner (term_type h)) ≡ true = grows_leads M rs e x s h (suc p) c sh.1.0 (in_first (occurs x h) (occurs x l) occ o) gr in
       let led' : leads types.of ≡ true = subst (λ (y : ValueType). leads (inner y) ≡ true) two.0 led in
       let fa' : Fits M types.of a = subst (λ y. FitsOver M (around N D d) y (ValueLocal a)) types.value fa in
       let fv : FitsOver M (around N D d) t (ValueLocal v) = subst (FitsOver M (around N D d) t) q (z.0 d i) in

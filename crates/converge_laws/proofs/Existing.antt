@@ -8,14 +8,14 @@ use Rattle.fc_values.specs.Fields.{AnyValue, ValueLocal, AllFit, FitsOver, FitEa
 use Rattle.fc_values.specs.Builtins.{builtin_value}
 use Rattle.fc_values.specs.BuiltinTypes.{HasRule}
 use Rattle.fc_values.proofs.BuiltinTyped.{builtin_typed}
-use Rattle.fc_nodes.specs.Terms.{Leaf, Literal, Variable, Sense, Uid, NbrLink, Evolution, ByRep, ByShare, Term, Terms, Plain, Apply, Nbr, Evolve, If, Let, NoMore, More, type_of, size}
+use Rattle.fc_nodes.specs.Terms.{Leaf, Literal, Variable, Sense, Uid, NbrLink, Evolution, ByRep, ByShare, Term, Terms, Plain, Apply, Nbr, Evolve, If, Let, NoMore, More, term_type, size}
 use Rattle.fc_nodes.specs.Typing.{Scope, evolving_type, types_of, LeafHasType}
 use Rattle.alignment.specs.Environments.{same_truth}
 use Rattle.topology.specs.Networks.{Network, Lives, numbers, near, IsNetwork}
 use Rattle.alignment.proofs.Entries.{devices_with}
 use Rattle.device_eval.proofs.Sights.{fit_with, restricted_fits}
 use Rattle.topology.proofs.Lemmas.{AllNear, near_fits}
-use Rattle.interval_facts.specs.Solutions.{Devices, In, ValueMap, ValueMaps, bind, near_among, around, field_over, at_device, field_of, local_map, evolved, where_is, LeafIs, Solves, SolveAll}
+use Rattle.interval_facts.specs.Solutions.{Devices, In, ValueMap, ValueMaps, bind, near_among, around, field_around, at_device, field_of, local_map, evolved, where_is, LeafIs, Solves, SolveAll}
 use Rattle.fc_nodes.specs.Variables.{occurs, occurs_in}
 use Rattle.converge_laws.proofs.Near.{is_same, in_part}
 use Rattle.converge_laws.proofs.Given.{situation_at}
@@ -24,7 +24,7 @@ use Rattle.converge_laws.proofs.Agreement.{AgreeFor, AgreeIn, bind_agree, bind_a
 use Rattle.converge_laws.proofs.Around.{heard_in, entries_over, some_or, local_in, local_back, around_up, VarOn, VarsOn, bound_on, field_fits, solution_fits}
 use Rattle.fc_values.proofs.Rising.{rises_test}
 use Rattle.device_eval.specs.Conditions.{Suits}
-use Rattle.topology.specs.Nearby.{near_numbers}
+use Rattle.topology.specs.Nearby.{neighbour_numbers}
 use Rattle.rise.proofs.WithoutRise.{solves_agree}
 
 module _ (N : Network) (net : IsNetwork N) where
@@ -33,7 +33,7 @@ module _ (N : Network) (net : IsNetwork N) where
 
   leaf_vars : (D : Devices) (l : Leaf) (V W : ValueMaps) (d : ℕ) (v : AnyValue) → ((q : ℕ) → l ≡ Variable q → V q d ≡ W q d) → LeafIs N D l V d v → LeafIs N D l W d v
   leaf_vars D (Literal x) V W d v e h = h
-  leaf_vars D (Variable q) V W d v e h = h ∙ ap (restricted d (near_numbers (near_among N D d))) (e q refl)
+  leaf_vars D (Variable q) V W d v e h = h ∙ ap (restricted d (neighbour_numbers (near_among N D d))) (e q refl)
   leaf_vars D (Sense i) V W d v e h = h
   leaf_vars D Uid V W d v e h = h
   leaf_vars D NbrLink V W d v e h = h
@@ -91,7 +91,7 @@ module _ (N : Network) (net : IsNetwork N) where
     leaf_exists t (Literal (IntValue n)) scope p D V live ty h = ((λ d. ValueLocal (IntValue n)), ((λ d i. rw ty.0 ty.1), (λ d i. refl)))
     leaf_exists t (Literal (BoolValue b)) scope p D V live ty h = ((λ d. ValueLocal (BoolValue b)), ((λ d i. rw ty tt), (λ d i. refl)))
     leaf_exists t (Literal (PairValue a b)) scope p D V live ty h = absurd ty
-    leaf_exists t (Variable q) scope p D V live ty h = ((λ d. restricted d (near_numbers (near_among N D d)) (V q d)), ((λ d i. restricted_fits d (heard_in N D d) M t (V q d) (h q t ty d i)), (λ d i. refl)))
+    leaf_exists t (Variable q) scope p D V live ty h = ((λ d. restricted d (neighbour_numbers (near_among N D d)) (V q d)), ((λ d i. restricted_fits d (heard_in N D d) M t (V q d) (h q t ty d i)), (λ d i. refl)))
     leaf_exists t (Sense k) scope p D V live ty h = (
       (λ d. input_or (slice_get (situation_at N d).inputs k)),
       (
@@ -105,7 +105,7 @@ module _ (N : Network) (net : IsNetwork N) where
         input_or (Some v) = ValueLocal v
     leaf_exists t Uid scope p D V live ty h = ((λ d. ValueLocal (IntValue (min d M))), ((λ d i. rw ty (omega arith)), (λ d i. refl)))
     leaf_exists t NbrLink scope p D V live ty h = (
-      (λ d. field_over d (IntValue N.declared.least) (near_among N D d) (λ n. IntValue n.1)),
+      (λ d. field_around d (IntValue N.declared.least) (near_among N D d) (λ n. IntValue n.1)),
       (
         (λ d i. rw ty (
           devices_with d (IntValue N.declared.least) (map (λ (n : ℕ × ℕ). (n.0, IntValue n.1)) (near_among N D d)) ∙ ap (with_number d) (entries_over (λ n. IntValue n.1) (near_among N D d)),
@@ -131,9 +131,9 @@ module _ (N : Network) (net : IsNetwork N) where
         made d i = builtin_typed o M d (around N D d) (types_of xs) t (at_device d Gs) rule (rises_test (around N D d) (around_up N net D d)) (fit d i)
 
     -- a solution of local type, as local values
-    pub as_local : (t : Term) (s : LocalType) (p : ℕ) (D : Devices) (V : ValueMaps) (F : ValueMap) → type_of t ≡ TypeLocal s → Solves N p t D V F → (g : ℕ → LocalValue) × Solves N p t D V (local_map g) × ((d : ℕ) → In D d → F d ≡ ValueLocal (g d)) × ((d : ℕ) → In D d → Fits M s (g d))
+    pub as_local : (t : Term) (s : LocalType) (p : ℕ) (D : Devices) (V : ValueMaps) (F : ValueMap) → term_type t ≡ TypeLocal s → Solves N p t D V F → (g : ℕ → LocalValue) × Solves N p t D V (local_map g) × ((d : ℕ) → In D d → F d ≡ ValueLocal (g d)) × ((d : ℕ) → In D d → Fits M s (g d))
     as_local t s p D V F e h =
-        let back : (d : ℕ) → In D d → (F d ≡ ValueLocal (local_in (F d))) × Fits M s (local_in (F d)) = λ d i. local_back M (around N D d) (type_of t) s (F d) e (solution_fits N net t p D V F h d i) in
+        let back : (d : ℕ) → In D d → (F d ≡ ValueLocal (local_in (F d))) × Fits M s (local_in (F d)) = λ d i. local_back M (around N D d) (term_type t) s (F d) e (solution_fits N net t p D V F h d i) in
         ((λ d. local_in (F d)), solves_agree N t p D V F (local_map (λ d. local_in (F d))) (λ d i. (back d i).0) h, (λ d i. (back d i).0), (λ d i. (back d i).1))
 
     -- fits, where the values outside the set don't
@@ -154,21 +154,21 @@ module _ (N : Network) (net : IsNetwork N) where
     evolved_on ByRep D s f h = λ d i. h d
     evolved_on ByShare D s f h = bound_on N net D (TypeField s) (field_of N D f) (field_fits N net D s f h)
 
-    pub nbr_exists : (t : ValueType) (a : Term) (s : LocalType) (p : ℕ) (D : Devices) (V : ValueMaps) (F : ValueMap) → t ≡ TypeField s → type_of a ≡ TypeLocal s → Solves N (suc p) a D V F → (G : ValueMap) × Solves N p (Nbr t a) D V G
+    pub nbr_exists : (t : ValueType) (a : Term) (s : LocalType) (p : ℕ) (D : Devices) (V : ValueMaps) (F : ValueMap) → t ≡ TypeField s → term_type a ≡ TypeLocal s → Solves N (suc p) a D V F → (G : ValueMap) × Solves N p (Nbr t a) D V G
     nbr_exists t a s p D V F et ea h =
         let l = as_local a s (suc p) D V F ea h in
         let g = within D s l.0 in
         let h' = solves_agree N a (suc p) D V (local_map l.0) (local_map g) (λ d i. ap ValueLocal (sym (within_same D s l.0 d i))) l.1 in
         (field_of N D g, ((λ d i. rw et (field_fits N net D s g (within_fits D s l.0 l.3) d i)), g, h', (λ d i. refl)))
 
-    pub constant_exists : (t : ValueType) (e : Evolution) (a u : Term) (s : LocalType) (p : ℕ) (D : Devices) (V : ValueMaps) (F : ValueMap) → t ≡ TypeLocal s → type_of u ≡ TypeLocal s → occurs p u ≡ false
+    pub constant_exists : (t : ValueType) (e : Evolution) (a u : Term) (s : LocalType) (p : ℕ) (D : Devices) (V : ValueMaps) (F : ValueMap) → t ≡ TypeLocal s → term_type u ≡ TypeLocal s → occurs p u ≡ false
         → Solves N (suc p + size a) u D (bind p (evolved e N D (λ d. some_value s)) V) F → (G : ValueMap) × Solves N p (Evolve t e a u) D V G
     constant_exists t e a u s p D V F et eu none h =
         let l = as_local u s (suc p + size a) D (bind p (evolved e N D (λ d. some_value s)) V) F eu h in
         let h' = solves_vars u (suc p + size a) D (bind p (evolved e N D (λ d. some_value s)) V) (bind p (evolved e N D l.0) V) (local_map l.0) (bind_apart N D p u (evolved e N D (λ d. some_value s)) (evolved e N D l.0) V V none (λ q o d i. refl)) l.1 in
         (local_map l.0, ((λ d i. rw et (l.3 d i)), l.0, h', (λ d i. refl)))
 
-    pub if_exists : (t : ValueType) (c u w : Term) (s : LocalType) (p : ℕ) (D : Devices) (V : ValueMaps) (k : ℕ → Bool) (A B : ValueMap) → t ≡ TypeLocal s → type_of u ≡ TypeLocal s → type_of w ≡ TypeLocal s
+    pub if_exists : (t : ValueType) (c u w : Term) (s : LocalType) (p : ℕ) (D : Devices) (V : ValueMaps) (k : ℕ → Bool) (A B : ValueMap) → t ≡ TypeLocal s → term_type u ≡ TypeLocal s → term_type w ≡ TypeLocal s
         → Solves N (suc p) c D V (local_map (λ d. BoolValue (k d))) → Solves N (suc p + size c) u (where_is true D k) V A → Solves N (suc p + size c + size u) w (where_is false D k) V B → (F : ValueMap) × Solves N p (If t c u w) D V F
     if_exists t c u w s p D V k A B et eu ew hc hu hw = (
       pick,
@@ -209,5 +209,5 @@ module _ (N : Network) (net : IsNetwork N) where
         local_there ds es t v e h = let b = local_back M ds t s v e h in let q = b.0 in rw q b.1
 
         by_truth : (d : ℕ) → In D d → (b : Bool) → k d ≡ b → FitsOver M (around N D d) (TypeLocal s) (if b then A d else B d)
-        by_truth d i true q = local_there (around N (where_is true D k) d) (around N D d) (type_of u) (A d) eu (solution_fits N net u (suc p + size c) (where_is true D k) V A hu d (inside true d i q))
-        by_truth d i false q = local_there (around N (where_is false D k) d) (around N D d) (type_of w) (B d) ew (solution_fits N net w (suc p + size c + size u) (where_is false D k) V B hw d (inside false d i q))
+        by_truth d i true q = local_there (around N (where_is true D k) d) (around N D d) (term_type u) (A d) eu (solution_fits N net u (suc p + size c) (where_is true D k) V A hu d (inside true d i q))
+        by_truth d i false q = local_there (around N (where_is false D k) d) (around N D d) (term_type w) (B d) ew (solution_fits N net w (suc p + size c + size u) (where_is false D k) V B hw d (inside false d i q))

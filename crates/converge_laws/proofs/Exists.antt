@@ -6,7 +6,7 @@ use Rattle.fc_values.specs.Types.{LocalType, IntType, BoolType, ValueType, TypeL
 use Rattle.fc_values.specs.Values.{LocalValue, IntValue, BoolValue, PairValue, Fits}
 use Rattle.fc_values.specs.Fields.{ValueLocal, FitsOver, FitEachOver}
 use Rattle.fc_values.specs.BuiltinTypes.{inner, HasRule, Takes, takes_rise}
-use Rattle.fc_nodes.specs.Terms.{Literal, Variable, Sense, Uid, NbrLink, Evolution, ByRep, Term, Terms, Plain, Apply, Nbr, Evolve, If, Let, NoMore, More, type_of, size, sizes}
+use Rattle.fc_nodes.specs.Terms.{Literal, Variable, Sense, Uid, NbrLink, Evolution, ByRep, Term, Terms, Plain, Apply, Nbr, Evolve, If, Let, NoMore, More, term_type, size, sizes}
 use Rattle.fc_nodes.specs.Typing.{Scope, evolving_type, types_of}
 use Rattle.device_eval.specs.Conditions.{Suits}
 use Rattle.topology.specs.Networks.{Network, Lives, IsNetwork}
@@ -46,7 +46,7 @@ rise_types (TypeField x) b c t s e rule = let v = rule.value in absurd cc
 rise_types (TypeLocal x) (TypeField y) c t s e rule = let v = rule.value in absurd cc
 rise_types (TypeLocal x) (TypeLocal y) (TypeField z) t s e rule = let v = rule.value in absurd cc
 
-own_form : (p : ℕ) (own : Term) → is_own p own ≡ true → type_of own ≡ TypeLocal IntType → own ≡ Plain (TypeLocal IntType) (Variable p)
+own_form : (p : ℕ) (own : Term) → is_own p own ≡ true → term_type own ≡ TypeLocal IntType → own ≡ Plain (TypeLocal IntType) (Variable p)
 own_form p (Plain t' (Variable n)) o e = let n' : n ≡ p = grind (arith, o, nat_tests) in rw (e, n') refl
 own_form p (Plain t' (Literal x)) o e = absurd cc
 own_form p (Plain t' (Sense i)) o e = absurd cc
@@ -81,7 +81,7 @@ module _ (A : Analysis) (N : Network) (net : IsNetwork N) (for : IsFor A N) (met
   ExistsOf t = (bs : Scope) (cs : Bounds) (p : ℕ) (D : Devices) (V : ValueMaps) → TermInFragment A M p t → Standing A.ranges N net metric bs cs p t D V → VarsOn N net D bs V → (F : ValueMap) × Solves N p t D V F
 
   -- a solution as local values that fit everywhere
-  turn_of : (e : Evolution) (x p : ℕ) (b : Term) (s : LocalType) (bs : Scope) (cs : Bounds) (D : Devices) (V : ValueMaps) (f : ℕ → LocalValue) → type_of b ≡ TypeLocal s → Stands bs cs p b D (bind x (evolved e N D f) V)
+  turn_of : (e : Evolution) (x p : ℕ) (b : Term) (s : LocalType) (bs : Scope) (cs : Bounds) (D : Devices) (V : ValueMaps) (f : ℕ → LocalValue) → term_type b ≡ TypeLocal s → Stands bs cs p b D (bind x (evolved e N D f) V)
       → HasSolution p b D (bind x (evolved e N D f) V) → Turn A.ranges N e x p b s D V f
   turn_of e x p b s bs cs D V f typed st h =
       let l = as_local N net least greatest suits b s p D (bind x (evolved e N D f) V) h.0 typed h.1 in
@@ -145,8 +145,8 @@ module _ (A : Analysis) (N : Network) (net : IsNetwork N) (for : IsFor A N) (met
     abbrev bounds' : Bounds
     bounds' = (p, full N.declared.ceiling (inner t)) ∷ cs
 
-    types : RiseTypes u1 (type_of own) (type_of w) t1
-    types = rise_types u1 (type_of own) (type_of w) t1 k st.typed.3 rule
+    types : RiseTypes u1 (term_type own) (term_type w) t1
+    types = rise_types u1 (term_type own) (term_type w) t1 k st.typed.3 rule
 
     int : k ≡ IntType
     int = let q : TypeLocal k ≡ TypeLocal IntType = sym st.typed.3 ∙ types.value in cc
@@ -252,8 +252,8 @@ module _ (A : Analysis) (N : Network) (net : IsNetwork N) (for : IsFor A N) (met
       if_exists N net least greatest suits t c u w ty.0 p D V b ru.0 rw'.0 ty.1 ty.3 ty.4 hc ru.1 rw'.1
   exists_to (suc k) (Let t a u) z bs cs p D V fr st vars =
       let ra = exists_to k a (omega (arith, z)) bs cs (suc p) D V fr.0 (in_bound A.ranges N net metric bs cs p t a u D V st) vars in
-      let ru = exists_to k u (omega (arith, z)) ((p, type_of a) ∷ bs) _ (suc p + size a) D (bind p ra.0 V) fr.1 (in_let A.ranges N net metric bs cs p t a u D V ra.0 st ra.1)
-      (bind_on N net D p (type_of a) ra.0 bs V (bound_on N net D (type_of a) ra.0 (solution_fits N net a (suc p) D V ra.0 ra.1)) vars) in
+      let ru = exists_to k u (omega (arith, z)) ((p, term_type a) ∷ bs) _ (suc p + size a) D (bind p ra.0 V) fr.1 (in_let A.ranges N net metric bs cs p t a u D V ra.0 st ra.1)
+      (bind_on N net D p (term_type a) ra.0 bs V (bound_on N net D (term_type a) ra.0 (solution_fits N net a (suc p) D V ra.0 ra.1)) vars) in
       (ru.0, ((λ d i. subst (λ y. FitsOver M (around N D d) y (ru.0 d)) (sym st.typed.0) (solution_fits N net u (suc p + size a) D (bind p ra.0 V) ru.0 ru.1 d i)), ra.0, ra.1, ru.1))
 
   pub exists : (t : Term) → ExistsOf t

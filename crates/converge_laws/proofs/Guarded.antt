@@ -8,7 +8,7 @@ use Rattle.fc_values.specs.Values.{LocalValue, IntValue, BoolValue}
 use Rattle.fc_values.specs.Fields.{Entries, AnyValue, ValueLocal, ValueField, devices, device_of, rises, FitsOver}
 use Rattle.fc_values.specs.Builtins.{local_value, builtin_value}
 use Rattle.fc_values.specs.Positions.{argument_nth}
-use Rattle.fc_nodes.specs.Terms.{Evolution, Term, Terms, Plain, Apply, Nbr, Evolve, If, Let, NoMore, More, type_of}
+use Rattle.fc_nodes.specs.Terms.{Evolution, Term, Terms, Plain, Apply, Nbr, Evolve, If, Let, NoMore, More, term_type}
 use Rattle.interval_facts.specs.Ranges.{RangeValue, LiesIn}
 use Rattle.interval_facts.proofs.Pointwise.{pointwise_nth}
 use Rattle.fc_nodes.specs.Variables.{occurs, occurs_in, is_heard}
@@ -80,7 +80,7 @@ module _ (m d : ℕ) (ds : List ℕ) (e : Evolution) (x q : ℕ) (rs : ℕ → R
   abbrev Part : ℕ → Term → AnyValue → Type 0
   Part = IsPartBelow m ds rs q below
 
-  part : (p : ℕ) (h : Term) (w : AnyValue) → Part p h w → FitsOver m ds (type_of h) w × LiesIn (rs p) w
+  part : (p : ℕ) (h : Term) (w : AnyValue) → Part p h w → FitsOver m ds (term_type h) w × LiesIn (rs p) w
   part p h w z = z.0
 
   apart_is : {p : ℕ} {h : Term} {v w : AnyValue} → Beside m d ds e x Near Part p h v w → occurs x h ≡ false → (v ≡ w) × Part p h w
@@ -88,7 +88,7 @@ module _ (m d : ℕ) (ds : List ℕ) (e : Evolution) (x q : ℕ) (rs : ℕ → R
   apart_is (heard p h o z g g') n = let u = heard_uses e x h o in absurd cc
   apart_is (joined p t o xs vs ws rule u b z z') n = absurd cc
 
-  heard_is : {p : ℕ} {h : Term} {v w : AnyValue} → Beside m d ds e x Near Part p h v w → is_heard e x h ≡ true → Near v w × FitsOver m ds (type_of h) v
+  heard_is : {p : ℕ} {h : Term} {v w : AnyValue} → Beside m d ds e x Near Part p h v w → is_heard e x h ≡ true → Near v w × FitsOver m ds (term_type h) v
   heard_is (apart p h o z k) n = let u = heard_uses e x h n in absurd cc
   heard_is (heard p h o z g g') n = (z, g)
   heard_is (joined p t o xs vs ws rule u b z z') n = absurd (apply_not_heard e x t o xs n)
@@ -101,7 +101,7 @@ module _ (m d : ℕ) (ds : List ℕ) (e : Evolution) (x q : ℕ) (rs : ℕ → R
       let same_s = apart_is bs ns in
       let there = heard_is bh hd in
       let z1 : builtin_value op.Mux m d (cw ∷ hv ∷ sw ∷ []) ≡ Some v = subst (λ y. builtin_value op.Mux m d (y ∷ hv ∷ sw ∷ []) ≡ Some v) same_c.0 (subst (λ y. builtin_value op.Mux m d (cv ∷ hv ∷ y ∷ []) ≡ Some v) same_s.0 z) in
-      guarded_same m d ds t cw hv hw sw v w below some f g (same_c.1.1 u' v' refl) (λ i l k. field_nth SameBelow m ds (type_of h) hv hw i l there.0 there.1 k) z1 z'
+      guarded_same m d ds t cw hv hw sw v w below some f g (same_c.1.1 u' v' refl) (λ i l k. field_nth SameBelow m ds (term_type h) hv hw i l there.0 there.1 k) z1 z'
 
   not_guarded : (h : Term) → is_heard e x h ≡ true → Guarded e x q h → ⊥
   not_guarded (Plain t l) o g = let u = heard_uses e x (Plain t l) o in absurd cc

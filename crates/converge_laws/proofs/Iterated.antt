@@ -6,7 +6,7 @@ use Rattle.fc_values.specs.declared.builtins.Builtin.TheVariants as op
 use Rattle.fc_values.specs.Types.{LocalType, ValueType, TypeLocal, TypeField}
 use Rattle.fc_values.specs.Values.{LocalValue, IntValue, Fits}
 use Rattle.fc_values.specs.Fields.{ValueLocal, FitsOver}
-use Rattle.fc_nodes.specs.Terms.{Evolution, ByRep, ByShare, Term, Apply, NoMore, More, type_of, size}
+use Rattle.fc_nodes.specs.Terms.{Evolution, ByRep, ByShare, Term, Apply, NoMore, More, term_type, size}
 use Rattle.topology.specs.Networks.{Network, IsNetwork}
 use Rattle.interval_facts.specs.Ranges.{RangeValue}
 use Rattle.interval_facts.specs.Solutions.{Devices, In, ValueMaps, bind, around, local_map, evolved, Solves}
@@ -15,7 +15,7 @@ use Rattle.fc_nodes.specs.Variables.{occurs}
 use Rattle.growth_facts.specs.Leads.{lead, Close, greatest_integer}
 use Rattle.growth_facts.specs.Growth.{Grows, growth_of}
 use Rattle.growth_facts.specs.Beside.{Shallow}
-use Rattle.fragment_check.specs.Patterns.{is_pair}
+use Rattle.fragment_check.specs.Patterns.{is_pair_range}
 use Rattle.fragment_check.specs.Shapes.{Guarded}
 use Rattle.converge_laws.specs.Stages.{integer_of}
 use Rattle.converge_laws.specs.Fragment.{Analysis, IsFor, TermInFragment}
@@ -36,7 +36,7 @@ pub record Turn (rs : ℕ → RangeValue) (N : Network) (e : Evolution) (x p : �
   pub ranged : InRanges rs N p b D (bind x (evolved e N D f) V) (local_map value) solves
 
 module _ (A : Analysis) (N : Network) (net : IsNetwork N) (for : IsFor A N) (e : Evolution) (x p : ℕ) (b : Term) (s ty : LocalType) (D : Devices) (V : ValueMaps)
-    (turn : (f : ℕ → LocalValue) → ((d : ℕ) → Fits N.declared.ceiling s (f d)) → Turn A.ranges N e x p b s D V f) (typed : type_of b ≡ TypeLocal s) (fr : TermInFragment A N.declared.ceiling p b) where
+    (turn : (f : ℕ → LocalValue) → ((d : ℕ) → Fits N.declared.ceiling s (f d)) → Turn A.ranges N e x p b s D V f) (typed : term_type b ≡ TypeLocal s) (fr : TermInFragment A N.declared.ceiling p b) where
   abbrev M : ℕ
   M = N.declared.ceiling
 
@@ -131,7 +131,7 @@ module _ (A : Analysis) (N : Network) (net : IsNetwork N) (for : IsFor A N) (e :
   own_fits : (i d : ℕ) → FitsOver N.declared.ceiling (around N D d) t (ValueLocal (v i d))
   own_fits i d = subst (λ y. FitsOver N.declared.ceiling (around N D d) y (ValueLocal (v i d))) (sym typed) (val_fits A N net for e x p b s ty D V turn typed fr i d)
 
-  pub hood_fixed : occurs x b ≡ true → (is_pair (A.ranges (suc p + size h)) ≡ true → greatest_integer (A.ranges (suc p + size h)) ≡ N.declared.ceiling → ⊥) → (d : ℕ) → In D d → v last_hood d ≡ v (suc last_hood) d
+  pub hood_fixed : occurs x b ≡ true → (is_pair_range (A.ranges (suc p + size h)) ≡ true → greatest_integer (A.ranges (suc p + size h)) ≡ N.declared.ceiling → ⊥) → (d : ℕ) → In D d → v last_hood d ≡ v (suc last_hood) d
   unfolding last_hood
   hood_fixed occ pair d i =
       last_stage N net A.ranges D (W last_hood) e x p c t h l ty (local_map (v (suc last_hood))) shallow occ apart gr pos (for.ends (suc p + size h)) pair (solves A N net for e x p b s ty D V turn typed fr last_hood)
@@ -141,8 +141,8 @@ module _ (A : Analysis) (N : Network) (net : IsNetwork N) (for : IsFor A N) (e :
   pub hood_fixed_int : ((i d : ℕ) → v i d ≡ IntValue (lead (v i d))) → (d : ℕ) → In D d → v last_hood d ≡ v (suc last_hood) d
   unfolding last_hood
   hood_fixed_int int d i =
-      let types = hood_types (type_of h ∷ type_of l ∷ []) t shallow.0 in
-      let two = head_of (type_of h) (type_of l) (TypeField types.of) (TypeLocal types.of) [] [] types.arguments in
+      let types = hood_types (term_type h ∷ term_type l ∷ []) t shallow.0 in
+      let two = head_of (term_type h) (term_type l) (TypeField types.of) (TypeLocal types.of) [] [] types.arguments in
       let top = hood_top N net A.ranges D (W last_hood) p t h l types.of (local_map (v (suc last_hood))) two.0 two.1 (solves A N net for e x p b s ty D V turn typed fr last_hood) (ranged A N net for e x p b s ty D V turn typed fr last_hood) d i (v (suc last_hood) d) refl in
       exact_int N.declared.ceiling c (A.ranges (suc p + size h)) types.of top.own (v last_hood d) (v (suc last_hood) d) (int (suc last_hood) d) (int last_hood d) top.fits top.lies
       (subst (λ y. FitsOver N.declared.ceiling (around N D d) y (ValueLocal (v last_hood d))) types.value (own_fits last_hood d)) (subst (λ y. FitsOver N.declared.ceiling (around N D d) y (ValueLocal (v (suc last_hood) d))) types.value (own_fits (suc last_hood) d))

@@ -7,7 +7,7 @@ use Rattle.fc_values.specs.Values.{LocalValue, IntValue, BoolValue, PairValue, F
 use Rattle.fc_values.specs.Builtins.{is_hood}
 use Rattle.fc_values.specs.BuiltinTypes.{inner, inners, lifted, has_field, rule_by, HasRule, Takes, takes_add, takes_sub, takes_mul, takes_rise, takes_min, takes_max, takes_less, takes_equal, takes_and, takes_or, takes_not, takes_mux, takes_pair, takes_fst, takes_snd}
 use Rattle.fc_nodes.specs.Typing.{types_of}
-use Rattle.fc_nodes.specs.Terms.{Evolution, Term, Terms, Plain, Apply, Nbr, Evolve, If, Let, NoMore, More, type_of, size}
+use Rattle.fc_nodes.specs.Terms.{Evolution, Term, Terms, Plain, Apply, Nbr, Evolve, If, Let, NoMore, More, term_type, size}
 use Rattle.interval_facts.specs.Ranges.{RangeValue, IntRange, BoolRange, PairRange, InRange}
 use Rattle.fc_nodes.specs.Variables.{occurs, occurs_in, is_heard}
 use Rattle.growth_facts.specs.Leads.{lead, leads, is_integer, greatest_integer}
@@ -163,12 +163,12 @@ module _ (m p g : ℕ) where
       by_test true q r = hood_leads o q h
 
 module _ (m : ℕ) (rs : ℕ → RangeValue) (e : Evolution) (x : ℕ) (s : LocalType) where
-  from_heard : (p g : ℕ) (h : Term) → is_heard e x h ≡ true → growth_of m rs e x p h ≡ Grows g → leads (inner (type_of h)) ≡ true
-  from_heard p g h o q = (if_grows m p g (leads (inner (type_of h))) (Grows 0) (sym (growth_of_heard m rs e x p h o) ∙ q)).0
+  from_heard : (p g : ℕ) (h : Term) → is_heard e x h ≡ true → growth_of m rs e x p h ≡ Grows g → leads (inner (term_type h)) ≡ true
+  from_heard p g h o q = (if_grows m p g (leads (inner (term_type h))) (Grows 0) (sym (growth_of_heard m rs e x p h o) ∙ q)).0
 
   mutual
     -- what grows with the variable is led by an integer
-    pub grows_leads : (h : Term) (p g : ℕ) → Shallow e x s h → occurs x h ≡ true → growth_of m rs e x p h ≡ Grows g → leads (inner (type_of h)) ≡ true
+    pub grows_leads : (h : Term) (p g : ℕ) → Shallow e x s h → occurs x h ≡ true → growth_of m rs e x p h ≡ Grows g → leads (inner (term_type h)) ≡ true
     grows_leads (Plain t l) p g sh o q = from_heard p g (Plain t l) (sh o).0 q
     grows_leads (Nbr t a) p g sh o q = from_heard p g (Nbr t a) (sh o).0 q
     grows_leads (Apply t b xs) p g sh o q =

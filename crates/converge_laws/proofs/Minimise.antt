@@ -9,7 +9,7 @@ use Rattle.fc_values.specs.Fields.{Entries, AnyValue, ValueLocal, ValueField, de
 use Rattle.fc_values.specs.Builtins.{others, least_of, builtin_value}
 use Rattle.fc_values.specs.BuiltinTypes.{inner}
 use Rattle.fc_values.specs.Positions.{argument_nth}
-use Rattle.fc_nodes.specs.Terms.{Evolution, Term, Apply, NoMore, More, type_of}
+use Rattle.fc_nodes.specs.Terms.{Evolution, Term, Apply, NoMore, More, term_type}
 use Rattle.fc_nodes.specs.Variables.{occurs}
 use Rattle.growth_facts.specs.Leads.{lead, Close}
 use Rattle.growth_facts.specs.Beside.{IsPart, FieldPair, Beside, apart, heard, joined, no_more, one_more}
@@ -68,7 +68,7 @@ module _ (m d k c : ℕ) (ds : List ℕ) (e : Evolution) (x : ℕ) (f : ℕ → 
   abbrev Part : ℕ → Term → AnyValue → Type 0
   Part = IsPart m ds rs
 
-  part : (p : ℕ) (h : Term) (w : AnyValue) → Part p h w → FitsOver m ds (type_of h) w × LiesIn (rs p) w
+  part : (p : ℕ) (h : Term) (w : AnyValue) → Part p h w → FitsOver m ds (term_type h) w × LiesIn (rs p) w
   part p h w z = z
 
   -- an entry of what grows by c
@@ -118,11 +118,11 @@ module _ (m d k c : ℕ) (ds : List ℕ) (e : Evolution) (x : ℕ) (f : ℕ → 
   hoods_close s hv lv hw lw r z (TypeField t) (TypeField u) a b q f f' g tt' at = let g1 : FitsOver m ds (TypeField u) (ValueLocal a.own) = subst (FitsOver m ds (TypeField u)) a.local g in absurd g1
 
   -- the minimising body
-  pub grows : (p : ℕ) (t : ValueType) (h l : Term) (r z : LocalValue) → occurs x l ≡ false → growth_of m rs e x (suc p) h ≡ Grows c → inner (type_of h) ≡ inner (type_of l)
+  pub grows : (p : ℕ) (t : ValueType) (h l : Term) (r z : LocalValue) → occurs x l ≡ false → growth_of m rs e x (suc p) h ≡ Grows c → inner (term_type h) ≡ inner (term_type l)
       → Beside m d ds e x Near Part p (Apply t op.MinHoodLoc (More h (More l NoMore))) (ValueLocal r) (ValueLocal z) → Close (min m (k + c)) r z
   grows p t h l r z o g ty (apart p' h' o' q k') = inl (let q' : ValueLocal r ≡ ValueLocal z = q in cc)
   grows p t h l r z o g ty (heard p' h' o' n f1 f2) = absurd (apply_not_heard e x t op.MinHoodLoc (More h (More l NoMore)) o')
   grows p t h l r z o g ty (joined p' t' o' xs vs ws rule u (one_more p1 h1 ts hv hw vs1 ws1 bh (one_more p2 l1 ts2 lv lw vs2 ws2 bl (no_more p3))) q q') =
       let fh = both_fit m d ds e x Near Part rs rising part bh in
       let fl = both_fit m d ds e x Near Part rs rising part bl in
-      hoods_close (inner t) hv lv hw lw r z (type_of h) (type_of l) (hood_is m d hv lv r q) (hood_is m d hw lw z q') (apart_is bl o) fh.0 fh.1 fl.0 ty (entry_close (suc p) h hv hw bh g)
+      hoods_close (inner t) hv lv hw lw r z (term_type h) (term_type l) (hood_is m d hv lv r q) (hood_is m d hw lw z q') (apart_is bl o) fh.0 fh.1 fl.0 ty (entry_close (suc p) h hv hw bh g)

@@ -8,7 +8,7 @@ use Rattle.alignment.specs.Environments.{NearTree, near_by, keeps_truth, same_tr
 use Rattle.alignment.specs.Scopes.{weights}
 use Rattle.device_eval.specs.Neighbours.{kept_there}
 use Rattle.interval_facts.specs.Solutions.{Devices, In, where_is}
-use Rattle.topology.specs.Nearby.{near_numbers}
+use Rattle.topology.specs.Nearby.{neighbour_numbers}
 
 -- these devices with these weights, in order, each with a tree of a kind
 abbrev pub NearAre : (ℕ → Tree → Type 0) → List (ℕ × ℕ) → List NearTree → Type 0
@@ -55,7 +55,7 @@ weights_are P [] (n ∷ ns) h = absurd h
 weights_are P (m ∷ ms) [] h = absurd h
 weights_are P (m ∷ ms) (n ∷ ns) h = let d = h.0 in let w = h.1 in let rest = weights_are P ms ns h.3 in rw (d, w, rest) refl
 
-pub numbers_are : (P : ℕ → Tree → Type 0) (ms : List (ℕ × ℕ)) (ns : List NearTree) → NearAre P ms ns → tree_numbers ns ≡ near_numbers ms
+pub numbers_are : (P : ℕ → Tree → Type 0) (ms : List (ℕ × ℕ)) (ns : List NearTree) → NearAre P ms ns → tree_numbers ns ≡ neighbour_numbers ms
 numbers_are P [] [] h = refl
 numbers_are P [] (n ∷ ns) h = absurd h
 numbers_are P (m ∷ ms) [] h = absurd h
@@ -74,7 +74,7 @@ is_same false true e = absurd cc
 is_same false false e = refl
 
 -- a field restricted to them
-pub restricted_is : (P : ℕ → Tree → Type 0) (d : ℕ) (ms : List (ℕ × ℕ)) (ns : List NearTree) (v : AnyValue) → NearAre P ms ns → restricted d (tree_numbers ns) v ≡ restricted d (near_numbers ms) v
+pub restricted_is : (P : ℕ → Tree → Type 0) (d : ℕ) (ms : List (ℕ × ℕ)) (ns : List NearTree) (v : AnyValue) → NearAre P ms ns → restricted d (tree_numbers ns) v ≡ restricted d (neighbour_numbers ms) v
 restricted_is P d ms ns v h = ap (λ (ks : List ℕ). restricted d ks v) (numbers_are P ms ns h)
 
 -- those that took a branch, where each keeps the truth of the solution

@@ -7,7 +7,7 @@ use Rattle.fc_values.specs.Values.{LocalValue}
 use Rattle.fc_values.specs.Fields.{ValueLocal}
 use Rattle.fc_values.specs.BuiltinTypes.{inner}
 use Rattle.fc_values.proofs.Rising.{rises_test}
-use Rattle.fc_nodes.specs.Terms.{Evolution, Term, Apply, NoMore, More, type_of, size}
+use Rattle.fc_nodes.specs.Terms.{Evolution, Term, Apply, NoMore, More, term_type, size}
 use Rattle.topology.specs.Networks.{Network, IsNetwork}
 use Rattle.interval_facts.specs.Solutions.{Devices, In, ValueMap, ValueMaps, around, local_map, evolved, Solves}
 use Rattle.interval_facts.specs.Claims.{InRanges}
@@ -56,8 +56,8 @@ module _ (A : Analysis) (N : Network) (net : IsNetwork N) where
         let b = solved N net D n m e x ty (λ q y z. Close k y z × (z ≡ f' q)) (IsPart M (around N D n) A.ranges) V W f f' vs ws (λ q j. (close q j, refl)) A
         (λ q y G z w. (solution_fits N net y q D W G z n m, lies_of A.ranges N q y D W G z w n m))
         T (λ y g q F G n0 ag' fr' s' r' w. P y g q D V W F G fr' (agree_apart y n0 ag') s' r' w n m) p F G sh ag fr s z rr in
-        let types = hood_types (type_of h ∷ type_of l ∷ []) t sh.0 in
-        let two = head_of (type_of h) (type_of l) (TypeField types.of) (TypeLocal types.of) [] [] types.arguments in
+        let types = hood_types (term_type h ∷ term_type l ∷ []) t sh.0 in
+        let two = head_of (term_type h) (term_type l) (TypeField types.of) (TypeLocal types.of) [] [] types.arguments in
         let b' : Beside M n (around N D n) e x (FieldPair (λ q y z. Close k y z × (z ≡ f' q))) (IsPart M (around N D n) A.ranges) p T (ValueLocal (r n)) (ValueLocal (r' n)) =
         subst (λ y. Beside M n (around N D n) e x (FieldPair (λ q y z. Close k y z × (z ≡ f' q))) (IsPart M (around N D n) A.ranges) p T (ValueLocal (r n)) y) (ge n m)
         (subst (λ y. Beside M n (around N D n) e x (FieldPair (λ q y z. Close k y z × (z ≡ f' q))) (IsPart M (around N D n) A.ranges) p T y (G n)) (fe n m) b) in

@@ -8,7 +8,7 @@ use Rattle.fc_values.specs.Fields.{ValueLocal, FitsOver}
 use Rattle.fc_values.specs.Builtins.{builtin_value}
 use Rattle.fc_values.specs.BuiltinTypes.{inner}
 use Rattle.fc_values.specs.Positions.{argument_nth}
-use Rattle.fc_nodes.specs.Terms.{Evolution, Term, Terms, Plain, Apply, Nbr, Evolve, If, Let, NoMore, More, type_of, size, sizes}
+use Rattle.fc_nodes.specs.Terms.{Evolution, Term, Terms, Plain, Apply, Nbr, Evolve, If, Let, NoMore, More, term_type, size, sizes}
 use Rattle.topology.specs.Networks.{Network, IsNetwork}
 use Rattle.interval_facts.specs.Solutions.{Devices, In, ValueMap, ValueMaps, bind, around, at_device, local_map, evolved, where_is, Solves, SolveAll}
 use Rattle.fc_nodes.specs.Variables.{occurs, occurs_in}
@@ -114,11 +114,11 @@ module _ (A : Analysis) (N : Network) (net : IsNetwork N) (for : IsFor A N) wher
       same_place : place ≡ suc (suc (suc at + size h + size l))
       same_place = let z = own_size p own ow in omega (arith, z)
 
-      types : HoodTypes (type_of h ∷ type_of l ∷ []) u1
-      types = hood_types (type_of h ∷ type_of l ∷ []) u1 sh.0
+      types : HoodTypes (term_type h ∷ term_type l ∷ []) u1
+      types = hood_types (term_type h ∷ term_type l ∷ []) u1 sh.0
 
-      two : (type_of h ≡ TypeField types.of) × (type_of l ≡ TypeLocal types.of)
-      two = head_of (type_of h) (type_of l) (TypeField types.of) (TypeLocal types.of) [] [] types.arguments
+      two : (term_type h ≡ TypeField types.of) × (term_type l ≡ TypeLocal types.of)
+      two = head_of (term_type h) (term_type l) (TypeField types.of) (TypeLocal types.of) [] [] types.arguments
 
       own_bound : (g : ℕ → LocalValue) (X : ValueMaps) (n : ℕ) → bind p (evolved e N D g) X p n ≡ ValueLocal (g n)
       own_bound g X n = bound_is p (evolved e N D g) X n ∙ ap (λ k. evolved k N D g n) rep
@@ -143,7 +143,7 @@ module _ (A : Analysis) (N : Network) (net : IsNetwork N) (for : IsFor A N) wher
 
       gain_low : (n : ℕ) → In D n → 1 ≤ lead (argument_nth 0 (g2.gain n))
       gain_low n m =
-          let z = least_nth (A.ranges place) (g2.gain n) 0 (lies_of A.ranges N place w D W' g2.gain g2.gains (g2.ranged rr.1).1 n m) (within_of M (around N D n) (type_of w) (g2.gain n) 0 (solution_fits N net w place D W' g2.gain g2.gains n m) (some_around n (heard_in N D n))) in
+          let z = least_nth (A.ranges place) (g2.gain n) 0 (lies_of A.ranges N place w D W' g2.gain g2.gains (g2.ranged rr.1).1 n m) (within_of M (around N D n) (term_type w) (g2.gain n) 0 (solution_fits N net w place D W' g2.gain g2.gains n m) (some_around n (heard_in N D n))) in
           let q = ap (λ k. least_integer (A.ranges k)) same_place in
           omega (arith, z, q, low)
 

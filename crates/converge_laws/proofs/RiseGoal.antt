@@ -11,7 +11,7 @@ use Rattle.fc_values.specs.Positions.{argument_nth}
 use Rattle.fc_nodes.specs.Typing.{types_of}
 use Rattle.fc_nodes.specs.Terms.{Literal, Variable, Sense, Uid, NbrLink, Term, Terms, Plain, Apply, Nbr, Evolve, If, Let, NoMore, More, size}
 use Rattle.topology.specs.Networks.{Network, IsNetwork}
-use Rattle.topology.specs.Nearby.{near_numbers}
+use Rattle.topology.specs.Nearby.{neighbour_numbers}
 use Rattle.interval_facts.specs.Ranges.{RangeValue}
 use Rattle.interval_facts.specs.Solutions.{Devices, In, ValueMap, ValueMaps, near_among, around, at_device, Solves, SolveAll}
 use Rattle.interval_facts.specs.Claims.{InRanges, AllInRanges}
@@ -48,7 +48,7 @@ module _ (rs : ℕ → RangeValue) (N : Network) (net : IsNetwork N) (D : Device
   own_map : (q : ℕ) (k : Term) (G : ValueMap) → is_own p k ≡ true → Solves N q k D W G → (d : ℕ) → In D d → W p d ≡ ValueLocal (f d) → G d ≡ ValueLocal (f d)
   own_map q (Plain t' (Variable n)) G o z d i e =
       let n' : n ≡ p = grind (arith, o, nat_tests) in
-      z.1 d i ∙ ap (restricted d (near_numbers (near_among N D d))) (ap (λ k. W k d) n' ∙ e)
+      z.1 d i ∙ ap (restricted d (neighbour_numbers (near_among N D d))) (ap (λ k. W k d) n' ∙ e)
   own_map q (Plain t' (Literal x)) G o z d i e = absurd cc
   own_map q (Plain t' (Sense k)) G o z d i e = absurd cc
   own_map q (Plain t' Uid) G o z d i e = absurd cc

@@ -36,13 +36,13 @@ use Rattle.fc_values.specs.Builtins.{builtin_value}
 use Rattle.fc_values.specs.Positions.{argument_nth}
 use Rattle.fc_values.specs.Fields.{restricted}
 use Rattle.fc_values.proofs.Rising.{rises_test}
-use Rattle.fc_nodes.specs.Terms.{type_of, Literal, Variable, Sense, Uid, NbrLink}
+use Rattle.fc_nodes.specs.Terms.{term_type, Literal, Variable, Sense, Uid, NbrLink}
 use Rattle.fc_nodes.specs.Flat.{FitsTree, FitTrees}
 use Rattle.device_eval.specs.Rules.{Evaluates, EvaluateAll, builtin, none, one_more}
 use Rattle.device_eval.proofs.Sights.{kids_from, first_kid, rest_kids}
-use Rattle.topology.specs.Nearby.{near_numbers}
+use Rattle.topology.specs.Nearby.{neighbour_numbers}
 use Rattle.interval_facts.specs.Ranges.{RangeValue, IntRange, BoolRange, PairRange, LiesIn, InRange}
-use Rattle.fragment_check.specs.Patterns.{is_pair}
+use Rattle.fragment_check.specs.Patterns.{is_pair_range}
 use Rattle.interval_facts.specs.Solutions.{SolveAll, at_device}
 use Rattle.interval_facts.proofs.Pointwise.{pointwise_nth}
 use Rattle.fc_nodes.specs.Variables.{is_own, occurs_in}
@@ -120,7 +120,7 @@ module _ (t1 u1 : ValueType) (h l own w : Term) where
       beside : y.base ≤ suc j → Beside M d ds e p (FieldPair P) (IsPart M ds A.ranges) (suc at) T target (goal d)
       same : y.base ≤ suc j → step ≡ gain
       lies : LiesIn (A.ranges place) gain
-      fits : FitsOver M ds (type_of w) gain
+      fits : FitsOver M ds (term_type w) gain
       solves : Solves N (suc at) T D W goal
       ranged : InRanges A.ranges N (suc at) T D W goal solves
       holds : (K : Tree) → kids_from 0 K ≡ ts → HoldAll A N (suc j) (suc at) 0 b y lv args D W Gs z d K
@@ -134,7 +134,7 @@ module _ (t1 u1 : ValueType) (h l own w : Term) where
         let same = self_eq p in
         let at_p : W p d ≡ evolved e N D s.1 d = rw same refl in
         let at_n : W n d ≡ ValueLocal (s.1 d) = ap (λ k. W k d) n' ∙ at_p ∙ ap (λ f. evolved f N D s.1 d) rep in
-        z.1 d g.inside ∙ ap (restricted d (near_numbers (near_among N D d))) at_n
+        z.1 d g.inside ∙ ap (restricted d (neighbour_numbers (near_among N D d))) at_n
     own_map q (Plain t' (Literal x)) G o z = absurd cc
     own_map q (Plain t' (Sense i)) G o z = absurd cc
     own_map q (Plain t' Uid) G o z = absurd cc
@@ -289,8 +289,8 @@ module _ (t1 u1 : ValueType) (h l own w : Term) where
       made i l' =
           let z = rises_at i l' in
           let z0 = z.beside (omega (arith, l')) in
-          let types = hood_types (type_of h ∷ type_of l ∷ []) u1 shallow.0 in
-          let two = head_of (type_of h) (type_of l) (TypeField types.of) (TypeLocal types.of) [] [] types.arguments in
+          let types = hood_types (term_type h ∷ term_type l ∷ []) u1 shallow.0 in
+          let two = head_of (term_type h) (term_type l) (TypeField types.of) (TypeLocal types.of) [] [] types.arguments in
           let rising = rises_test ds (around_up N net D d) in
           let fit = both_fit M d ds e p (FieldPair (NearTo i)) (IsPart M ds A.ranges) A.ranges rising (λ q k x f. f) z0 in
           let same_type : inner u1 ≡ types.of = ap inner types.value in
@@ -303,7 +303,7 @@ module _ (t1 u1 : ValueType) (h l own w : Term) where
           let solved' : builtin_value op.Rise M d (z.goal d ∷ ValueLocal (s.1 d) ∷ z.gain ∷ []) ≡ Some (ValueLocal (s.1 d)) = subst (λ x. builtin_value op.Rise M d x ≡ Some (ValueLocal (s.1 d))) z.maps (s.2.3 d g.inside) in
           let fr = rise_is M (argument_nth 0 z.target) start.0 (argument_nth 0 z.step) r.result ((pointwise_nth op.Rise M d (z.target ∷ ValueLocal start.0 ∷ z.step ∷ []) (ValueLocal r.result) refl fired').each 0 tt) in
           let sr = rise_is M (argument_nth 0 (z.goal d)) (s.1 d) (argument_nth 0 z.gain) (s.1 d) ((pointwise_nth op.Rise M d (z.goal d ∷ ValueLocal (s.1 d) ∷ z.gain ∷ []) (ValueLocal (s.1 d)) refl solved').each 0 tt) in
-          let low = least_nth (A.ranges place) z.gain 0 z.lies (within_of M ds (type_of w) z.gain 0 z.fits (some_around d (heard_in N D d))) in
+          let low = least_nth (A.ranges place) z.gain 0 z.lies (within_of M ds (term_type w) z.gain 0 z.fits (some_around d (heard_in N D d))) in
           let same_step : lead (argument_nth 0 z.step) ≡ lead (argument_nth 0 z.gain) = ap (λ x. lead (argument_nth 0 x)) (z.same (omega (arith, l'))) in
           let target_is : argument_nth 0 z.target ≡ local_in z.target = ap (argument_nth 0) tv.0 in
           let goal_is : argument_nth 0 (z.goal d) ≡ local_in (z.goal d) = ap (argument_nth 0) gv.0 in
@@ -346,7 +346,7 @@ module _ (t1 u1 : ValueType) (h l own w : Term) where
       int_fits (BoolValue z) f = absurd f
       int_fits (PairValue z z') f = absurd f
 
-      not_pair : (k : RangeValue) (x : LocalValue) → Fits M IntType x → InRange k x → is_pair k ≡ true → ⊥
+      not_pair : (k : RangeValue) (x : LocalValue) → Fits M IntType x → InRange k x → is_pair_range k ≡ true → ⊥
       not_pair (IntRange z z') x f q k = absurd cc
       not_pair BoolRange x f q k = absurd cc
       not_pair (PairRange k k') (IntValue n) f q z = absurd q

@@ -31,7 +31,7 @@ use Rattle.growth_facts.specs.Beside.{Pairs, FieldPair, Beside, apart, heard, jo
 use Rattle.growth_facts.proofs.FieldPairs.{pairs_with, field_cut}
 use Rattle.converge_laws.proofs.Around.{heard_in}
 use Rattle.device_eval.specs.Conditions.{VariableFits}
-use Rattle.topology.specs.Nearby.{near_numbers}
+use Rattle.topology.specs.Nearby.{neighbour_numbers}
 use Rattle.growth_facts.specs.Beside as beside
 
 -- what the neighbours keep, entry by entry
@@ -52,13 +52,13 @@ kept_pairs P g D Q f (m ∷ ms) (n ∷ ns) es a h e = one (kept_of n.2) (kept_th
         subst (λ x. Pairs P x (map (λ (k : ℕ × ℕ). (k.0, g k.0)) (m ∷ ms))) e' (h.0, v', ih fs q)
 
 -- and it fits
-pub kept_over : (m : ℕ) (s : LocalType) (ms : List (ℕ × ℕ)) (ns : List NearTree) (es : Entries) → NearAre (λ n t. (v : LocalValue) → kept_of t ≡ Some v → Fits m s v) ms ns → kept_there ns ≡ Some es → (devices es ≡ near_numbers ms) × AllFit m s es
+pub kept_over : (m : ℕ) (s : LocalType) (ms : List (ℕ × ℕ)) (ns : List NearTree) (es : Entries) → NearAre (λ n t. (v : LocalValue) → kept_of t ≡ Some v → Fits m s v) ms ns → kept_there ns ≡ Some es → (devices es ≡ neighbour_numbers ms) × AllFit m s es
 kept_over m s [] [] es h e = let e' : [] ≡ es = cc in subst (λ x. (devices x ≡ []) × AllFit m s x) e' (refl, tt)
 kept_over m s [] (n ∷ ns) es h e = absurd h
 kept_over m s (k ∷ ms) [] es h e = absurd h
 kept_over m s (k ∷ ms) (n ∷ ns) es h e = one (kept_of n.2) (kept_there ns) refl refl e (λ fs q. kept_over m s ms ns fs h.3 q)
   where
-    one : (o : Option LocalValue) (r : Option Entries) → kept_of n.2 ≡ o → kept_there ns ≡ r → entry_before n.0 o r ≡ Some es → ((fs : Entries) → kept_there ns ≡ Some fs → (devices fs ≡ near_numbers ms) × AllFit m s fs) → (devices es ≡ near_numbers (k ∷ ms)) × AllFit m s es
+    one : (o : Option LocalValue) (r : Option Entries) → kept_of n.2 ≡ o → kept_there ns ≡ r → entry_before n.0 o r ≡ Some es → ((fs : Entries) → kept_there ns ≡ Some fs → (devices fs ≡ neighbour_numbers ms) × AllFit m s fs) → (devices es ≡ neighbour_numbers (k ∷ ms)) × AllFit m s es
     one None r q z e ih = absurd cc
     one (Some v) None q z e ih = absurd cc
     one (Some v) (Some fs) q z e ih =
@@ -66,7 +66,7 @@ kept_over m s (k ∷ ms) (n ∷ ns) es h e = one (kept_of n.2) (kept_there ns) r
         let rest = ih fs z in
         let first = h.0 in
         let over = rest.0 in
-        subst (λ x. (devices x ≡ near_numbers (k ∷ ms)) × AllFit m s x) e' (rw (first, over) refl, (h.2 v q, rest.1))
+        subst (λ x. (devices x ≡ neighbour_numbers (k ∷ ms)) × AllFit m s x) e' (rw (first, over) refl, (h.2 v q, rest.1))
 
 pub keeps_fit : (m : ℕ) (s : LocalType) (Q : Trees → Type 0) (T : Tree) (v : LocalValue) → KeepsWith (Fits m s) Q T → kept_of T ≡ Some v → Fits m s v
 keeps_fit m s Q (Keep None ts) v h e = absurd h
@@ -112,7 +112,7 @@ module _ (A : Analysis) (N : Network) (d j b : ℕ) (st : Stage) (lv : Lvs) (e :
       let is = variable_value N d p q t vars env v w tree h (ap (λ x. variable_at x vars) z ∙ e') in
       let cut = restricted_is _ d (near_among N D d) env.near w (g.near (omega (arith, l, deep))) in
       let sol = s.1 d g.inside in
-      let k' : FieldPair P (restricted d (near_numbers (near_among N D d)) w) (restricted d (near_numbers (near_among N D d)) (V q d)) = field_cut P d (near_numbers (near_among N D d)) w (V q d) (subst (λ x. FieldPair P w (V x d)) (sym z) (k (omega (arith, l, deep))).0) in
+      let k' : FieldPair P (restricted d (neighbour_numbers (near_among N D d)) w) (restricted d (neighbour_numbers (near_among N D d)) (V q d)) = field_cut P d (neighbour_numbers (near_among N D d)) w (V q d) (subst (λ x. FieldPair P w (V x d)) (sym z) (k (omega (arith, l, deep))).0) in
       let fit = restricted_fits d (heard_in N D d) M (TypeField ty) w (k (omega (arith, l, deep))).1 in
       (rw (is, cut, sol) k', rw (is, cut, et) fit)
 
@@ -142,7 +142,7 @@ module _ (A : Analysis) (N : Network) (d j b : ℕ) (st : Stage) (lv : Lvs) (e :
       no_own e e' = absurd cc
 
       solution : (n : ℕ) → In D n → s.1 n ≡ f n
-      solution n u = let e = s.2.1 n u in let e' : V q n ≡ ValueLocal (f n) = ap (λ y. V y n) z ∙ k.2 n in let e'' : ValueLocal (s.1 n) ≡ ValueLocal (f n) = e ∙ ap (restricted n (near_numbers (near_among N D n))) e' in cc
+      solution n u = let e = s.2.1 n u in let e' : V q n ≡ ValueLocal (f n) = ap (λ y. V y n) z ∙ k.2 n in let e'' : ValueLocal (s.1 n) ≡ ValueLocal (f n) = e ∙ ap (restricted n (neighbour_numbers (near_among N D n))) e' in cc
 
       same : x ≡ k.0
       same = let e = variable_value N d (suc p) q t' vars (child_env 0 env) (ValueLocal x) (ValueLocal k.0) ta ea (ap (λ y. variable_at y vars) z ∙ k.1) in cc

@@ -15,7 +15,7 @@ use Rattle.converge_laws.proofs.Step.{or_left, or_right}
 use Rattle.converge_laws.proofs.Near.{AllSet, all_set}
 use Rattle.growth_facts.specs.Beside.{Pairs, FieldPair, Beside, apart, heard, joined, BesideAll, no_more, one_more, Shallow, AllShallow}
 use Rattle.growth_facts.proofs.FieldPairs.{pairs_with, field_cut}
-use Rattle.topology.specs.Nearby.{near_numbers}
+use Rattle.topology.specs.Nearby.{neighbour_numbers}
 
 map_pairs : (P : ℕ → LocalValue → LocalValue → Type 0) (g h : ℕ → LocalValue) (D : Devices) → ((n : ℕ) → In D n → P n (g n) (h n)) → (ms : List (ℕ × ℕ)) → AllSet D ms → Pairs P (map (λ (m : ℕ × ℕ). (m.0, g m.0)) ms) (map (λ (m : ℕ × ℕ). (m.0, h m.0)) ms)
 map_pairs P g h D f [] a = tt
@@ -59,7 +59,7 @@ module _ (N : Network) (net : IsNetwork N) (D : Devices) (d : ℕ) (i : In D d) 
       let v : V n d ≡ field_of N D f d = ap (λ y. V y d) z ∙ vs d ∙ ap (λ y. evolved y N D f d) (sym q) in
       let w : W n d ≡ field_of N D f' d = ap (λ y. W y d) z ∙ ws d ∙ ap (λ y. evolved y N D f' d) (sym q) in
       let a = s.1 d i in let b = r.1 d i in
-      let k = field_cut P d (near_numbers (near_among N D d)) (field_of N D f d) (field_of N D f' d) (fields_pair f f' close) in
+      let k = field_cut P d (neighbour_numbers (near_among N D d)) (field_of N D f d) (field_of N D f' d) (fields_pair f f' close) in
       rw (a, b, v, w) k
 
   rep_pair : (ev : Evolution) → ev ≡ e → (p : ℕ) (t : ValueType) (a : Term) (F G : ValueMap) → Solves N p (Nbr t a) D V F → Solves N p (Nbr t a) D W G → is_heard ev x (Nbr t a) ≡ true → FieldPair P (F d) (G d)
@@ -70,8 +70,8 @@ module _ (N : Network) (net : IsNetwork N) (D : Devices) (d : ℕ) (i : In D d) 
       let w : (n : ℕ) → In D n → r.1 n ≡ f' n = λ n u. one (r.1 n) (f' n) n (W k n) (r.2.1 n u) (ap (λ y. W y n) z ∙ ws n ∙ ap (λ y. evolved y N D f' n) (sym q)) in
       rw (s.3 d i, r.3 d i) (fields_pair s.1 r.1 (λ n u. rw (v n u, w n u) (close n u)))
     where
-      one : (a b : LocalValue) (n : ℕ) (y : AnyValue) → ValueLocal a ≡ restricted n (near_numbers (near_among N D n)) y → y ≡ ValueLocal b → a ≡ b
-      one a b n y e e' = let e'' : ValueLocal a ≡ ValueLocal b = e ∙ ap (restricted n (near_numbers (near_among N D n))) e' in cc
+      one : (a b : LocalValue) (n : ℕ) (y : AnyValue) → ValueLocal a ≡ restricted n (neighbour_numbers (near_among N D n)) y → y ≡ ValueLocal b → a ≡ b
+      one a b n y e e' = let e'' : ValueLocal a ≡ ValueLocal b = e ∙ ap (restricted n (neighbour_numbers (near_among N D n))) e' in cc
   rep_pair ByRep q p t (Plain t' (Literal v)) F G s r hd = absurd cc
   rep_pair ByRep q p t (Plain t' (Sense k)) F G s r hd = absurd cc
   rep_pair ByRep q p t (Plain t' Uid) F G s r hd = absurd cc

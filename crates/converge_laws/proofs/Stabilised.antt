@@ -2,7 +2,7 @@
 use Rattle.std.proofs.Common.{◌≡◌, ℕ, ◌≤◌, [], refl, sym, subst, arith, None}
 use Rattle.fc_values.specs.Values.{LocalValue}
 use Rattle.fc_values.specs.Trees.{Copy}
-use Rattle.fc_nodes.specs.Terms.{type_of}
+use Rattle.fc_nodes.specs.Terms.{term_type}
 use Rattle.fc_nodes.specs.Typing.{HasType}
 use Rattle.fc_nodes.specs.Program.{Program, Unfolding, unfolding_of, IsLawful, IsProgram}
 use Rattle.device_eval.specs.Conditions.{Suits}
@@ -74,7 +74,7 @@ module _ (P : Program) (A : Analysis) (N : Network) (program : IsProgram P) (net
     where
       solved : SolvesMain N U.main (λ d. local_in (solution.0 d))
       solved = solves_agree N U.main 0 (lives N) no_binders solution.0 (local_map (λ d. local_in (solution.0 d)))
-          (λ d i. (local_back N.declared.ceiling (around N (lives N) d) (type_of U.main) program.root.0 (solution.0 d) program.root.1 (solution_fits N net U.main 0 (lives N) no_binders solution.0 solution.1 d i)).0) solution.1
+          (λ d i. (local_back N.declared.ceiling (around N (lives N) d) (term_type U.main) program.root.0 (solution.0 d) program.root.1 (solution_fits N net U.main 0 (lives N) no_binders solution.0 solution.1 d i)).0) solution.1
 
   module _ (keeps : StepsKeepGood) (fit : CopiesFit) (cuts : RunsCut) where
     pub raises : (F : ℕ → LocalValue) (s : SolvesMain N U.main F) → Raises (ExportAt U A N F s) U N

@@ -4,7 +4,7 @@ use Rattle.std.proofs.Common.{ℕ, suc, ◌≤◌, ◌+◌, ◌∷◌, refl, Boo
 use Rattle.fc_values.specs.Types.{ValueType}
 use Rattle.fc_values.specs.Values.{LocalValue, Fits}
 use Rattle.fc_values.specs.BuiltinTypes.{inner}
-use Rattle.fc_nodes.specs.Terms.{Evolution, Term, Terms, Apply, Nbr, Evolve, If, Let, More, type_of, size}
+use Rattle.fc_nodes.specs.Terms.{Evolution, Term, Terms, Apply, Nbr, Evolve, If, Let, More, term_type, size}
 use Rattle.fc_nodes.specs.Typing.{Scope, evolving_type, HasType, HaveTypes}
 use Rattle.fc_values.specs.declared.builtins.Builtin.{Builtin}
 use Rattle.topology.specs.Networks.{Network, Lives, IsNetwork}
@@ -113,7 +113,7 @@ module _ (rs : ℕ → RangeValue) (N : Network) (net : IsNetwork N) (metric : N
   }
 
   pub in_let : (bs : Scope) (cs : Bounds) (p : ℕ) (t : ValueType) (a u : Term) (D : Devices) (V : ValueMaps) (G : ValueMap) → Standing bs cs p (Let t a u) D V → Solves N (suc p) a D V G
-      → Standing ((p, type_of a) ∷ bs) ((p, term_range N.declared cs (suc p) a) ∷ cs) (suc p + size a) u D (bind p G V)
+      → Standing ((p, term_type a) ∷ bs) ((p, term_range N.declared cs (suc p) a) ∷ cs) (suc p + size a) u D (bind p G V)
   in_let bs cs p t a u D V G st s = record {
     alive = st.alive;
     typed = st.typed.2;

@@ -25,7 +25,7 @@ use Rattle.converge_laws.specs.Stages.{Stage}
 use Rattle.converge_laws.specs.Invariant.{Holds}
 use Rattle.converge_laws.proofs.Near.{NearAre, OwnIs, near_kid, near_as, own_kid, own_as, kept_are, weights_are, restricted_is, is_same, Truth, OnBranch, near_branch, own_branch}
 use Rattle.converge_laws.proofs.Given.{Here, Given, StepOf, GivenAll, StepAll}
-use Rattle.topology.specs.Nearby.{near_numbers}
+use Rattle.topology.specs.Nearby.{neighbour_numbers}
 
 leaf_low : (b x : ℕ) (lv : Lvs) (t : ValueType) (l : Leaf) → b ≤ leaf_level b x lv t l
 leaf_low b x lv t (Literal v) = omega arith
@@ -126,13 +126,13 @@ module _ (A : Analysis) (N : Network) (d j : ℕ) where
       no_own e e' = absurd cc
 
   -- a variable that is read
-  field_read : (D : Devices) (P : ℕ → Tree → Type 0) (env : Env) (w z y : AnyValue) → NearAre P (near_among N D d) env.near → w ≡ z → y ≡ restricted d (near_numbers (near_among N D d)) z → restricted d (tree_numbers env.near) w ≡ y
-  field_read D P env w z y near e e' = restricted_is P d (near_among N D d) env.near w near ∙ ap (restricted d (near_numbers (near_among N D d))) e ∙ sym e'
+  field_read : (D : Devices) (P : ℕ → Tree → Type 0) (env : Env) (w z y : AnyValue) → NearAre P (near_among N D d) env.near → w ≡ z → y ≡ restricted d (neighbour_numbers (near_among N D d)) z → restricted d (tree_numbers env.near) w ≡ y
+  field_read D P env w z y near e e' = restricted_is P d (near_among N D d) env.near w near ∙ ap (restricted d (neighbour_numbers (near_among N D d))) e ∙ sym e'
 
-  local_read : (t : LocalType) (ds : List ℕ) (D : Devices) (env : Env) (w z y : AnyValue) → FitsOver N.declared.ceiling ds (TypeLocal t) y → w ≡ z → y ≡ restricted d (near_numbers (near_among N D d)) z → restricted d (tree_numbers env.near) w ≡ y
-  local_read t ds D env (ValueLocal x) z y f e e' = sym (e' ∙ ap (restricted d (near_numbers (near_among N D d))) (sym e))
+  local_read : (t : LocalType) (ds : List ℕ) (D : Devices) (env : Env) (w z y : AnyValue) → FitsOver N.declared.ceiling ds (TypeLocal t) y → w ≡ z → y ≡ restricted d (neighbour_numbers (near_among N D d)) z → restricted d (tree_numbers env.near) w ≡ y
+  local_read t ds D env (ValueLocal x) z y f e e' = sym (e' ∙ ap (restricted d (neighbour_numbers (near_among N D d))) (sym e))
   local_read t ds D env (ValueField es) z y f e e' =
-      let y' : y ≡ restricted d (near_numbers (near_among N D d)) (ValueField es) = e' ∙ ap (restricted d (near_numbers (near_among N D d))) (sym e) in
+      let y' : y ≡ restricted d (neighbour_numbers (near_among N D d)) (ValueField es) = e' ∙ ap (restricted d (neighbour_numbers (near_among N D d))) (sym e) in
       absurd (rw y' at f)
 
   step_variable : (t : ValueType) (q p b : ℕ) (st : Stage) (lv : Lvs) (D : Devices) (V : ValueMaps) (F : ValueMap) (s : Solves N p (Plain t (Variable q)) D V F) (vars : Vars) (env : Env) (w : AnyValue)

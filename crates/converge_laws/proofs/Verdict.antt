@@ -9,7 +9,7 @@ use Rattle.fc_values.specs.BuiltinTypes.{inner}
 use Rattle.fc_values.specs.Trees.{TreeExport}
 use Rattle.fc_nodes.specs.declared.verdicts.Reason.{Reason}
 use Rattle.fc_nodes.specs.declared.verdicts.Verdict.TheVariants as verdict
-use Rattle.fc_nodes.specs.Terms.{Leaf, Literal, Variable, Sense, Uid, NbrLink, Term, Terms, Plain, Apply, Nbr, Evolve, If, Let, NoMore, More, type_of, size, term_at, Laid, AllLaid}
+use Rattle.fc_nodes.specs.Terms.{Leaf, Literal, Variable, Sense, Uid, NbrLink, Term, Terms, Plain, Apply, Nbr, Evolve, If, Let, NoMore, More, term_type, size, term_at, Laid, AllLaid}
 use Rattle.fc_nodes.specs.Typing.{Scope, type_at, evolving_type, HasType, HaveTypes}
 use Rattle.fc_nodes.specs.Subterms.{subterm_at}
 use Rattle.fc_nodes.specs.Program.{Program, Unfolding, unfolding_of, IsProgram}
@@ -19,7 +19,7 @@ use Rattle.fc_nodes.proofs.Subterms.{subterm_is}
 use Rattle.topology.specs.Networks.{Network}
 use Rattle.firing_core.specs.Rounds.{after_edit}
 use Rattle.firing_core.specs.Laws.{StepsKeepGood, RunsKeepGood, CopiesFit, RunsCut, RunsCutAtEdit}
-use Rattle.interval_facts.specs.Ranges.{RangeValue, Bounds, full, bound_at, term_range, node_ranges, all_node_ranges, range_of, ranges_of}
+use Rattle.interval_facts.specs.Ranges.{RangeValue, Bounds, full, binding_range, term_range, node_ranges, all_node_ranges, range_of, ranges_of}
 use Rattle.interval_facts.proofs.Tables.{Shows, shows_first, shows_second, shows_itself, as_many}
 use Rattle.growth_facts.specs.Leads.{greatest_integer}
 use Rattle.fragment_check.specs.declared.kinds.Pattern.{Pattern}
@@ -74,13 +74,13 @@ module _ (shapes : PatternsHaveShapes) (P : Program) (n : ℕ) (program : IsProg
   Bound (b ∷ bs) (c ∷ cs) = (b.0 ≡ c.0) × (c.1 ≡ variable_range U c.0) × Bound bs cs
   Bound _ _ = ⊥
 
-  bound_is : (other : RangeValue) (q : ℕ) (t : ValueType) (bs : Scope) (cs : Bounds) → type_at q bs ≡ Some t → Bound bs cs → bound_at other q cs ≡ variable_range U q
+  bound_is : (other : RangeValue) (q : ℕ) (t : ValueType) (bs : Scope) (cs : Bounds) → type_at q bs ≡ Some t → Bound bs cs → binding_range other q cs ≡ variable_range U q
   bound_is other q t [] [] e h = absurd cc
   bound_is other q t [] (c ∷ cs) e h = absurd h
   bound_is other q t (b ∷ bs) [] e h = absurd h
   bound_is other q t (b ∷ bs) (c ∷ cs) e h = by_test (nat_eq c.0 q) refl (λ k. bound_is other q t bs cs k h.2)
     where
-      by_test : (own : Bool) → nat_eq c.0 q ≡ own → (type_at q bs ≡ Some t → bound_at other q cs ≡ variable_range U q) → (if own then c.1 else bound_at other q cs) ≡ variable_range U q
+      by_test : (own : Bool) → nat_eq c.0 q ≡ own → (type_at q bs ≡ Some t → binding_range other q cs ≡ variable_range U q) → (if own then c.1 else binding_range other q cs) ≡ variable_range U q
       by_test true i f = h.1 ∙ ap (variable_range U) (eqb-true c.0 q i)
       by_test false i f = let j : nat_eq b.0 q ≡ false = rw (sym h.0) at i in f (rw j at e)
 
@@ -133,7 +133,7 @@ module _ (shapes : PatternsHaveShapes) (P : Program) (n : ℕ) (program : IsProg
         let first = shows_first R (suc p) (size a) (node_ranges D cs (suc p) a) (node_ranges D ((p, term_range D cs (suc p) a) ∷ cs) (suc p + size a) u) (as_many D a cs (suc p)) sh.1 in
         let rest = shows_second R (suc p) (size a) (node_ranges D cs (suc p) a) (node_ranges D ((p, term_range D cs (suc p) a) ∷ cs) (suc p + size a) u) (as_many D a cs (suc p)) sh.1 in (
           in_fragment a (suc p) bs cs la.1 ty.1 b first k.0,
-          in_fragment u (suc p + size a) ((p, type_of a) ∷ bs) ((p, term_range D cs (suc p) a) ∷ cs) la.2 ty.2
+          in_fragment u (suc p + size a) ((p, term_type a) ∷ bs) ((p, term_range D cs (suc p) a) ∷ cs) la.2 ty.2
               (refl, sym (first_shown a (suc p) cs first) ∙ sym (ap (bound_range D.ceiling R p) here), b) rest k.1,
         )
 

@@ -5,7 +5,7 @@ use Rattle.fc_values.specs.Values.{LocalValue}
 use Rattle.fc_values.specs.Fields.{AnyValue}
 use Rattle.fc_values.specs.BuiltinTypes.{inner}
 use Rattle.fc_values.specs.Trees.{Tree, TreeExport}
-use Rattle.fc_nodes.specs.Terms.{Literal, Variable, Sense, Uid, NbrLink, Evolution, ByRep, ByShare, Term, Terms, Plain, Apply, Nbr, Evolve, If, Let, NoMore, More, type_of, size}
+use Rattle.fc_nodes.specs.Terms.{Literal, Variable, Sense, Uid, NbrLink, Evolution, ByRep, ByShare, Term, Terms, Plain, Apply, Nbr, Evolve, If, Let, NoMore, More, term_type, size}
 use Rattle.fc_nodes.proofs.Kids.{size_some}
 use Rattle.fc_nodes.specs.Program.{Program, unfolding_of, IsProgram}
 use Rattle.alignment.specs.Environments.{Env}
@@ -89,8 +89,8 @@ module _ (A : Analysis) (N : Network) (net : IsNetwork N) (for : IsFor A N) (d j
       let at : ℕ = suc p + size a in
       let W : ValueMaps = bind p (evolved e N D s.1) V in
       let top : ℕ = greatest_integer (A.ranges (suc at + size h)) in
-      let types = hood_types (type_of h ∷ type_of l ∷ []) t' sh.0 in
-      let two = head_of (type_of h) (type_of l) (TypeField types.of) (TypeLocal types.of) [] [] types.arguments in
+      let types = hood_types (term_type h ∷ term_type l ∷ []) t' sh.0 in
+      let two = head_of (term_type h) (term_type l) (TypeField types.of) (TypeLocal types.of) [] [] types.arguments in
       let rising = rises_test (around N D d) (around_up N net D d) in
       climb_raised A N d j t e a U p b st lv D V F s vars env v tree cl g r net c top is sh (deep A.stages at b p lv e (inner t) U sh o) P
       (λ k x w z. (

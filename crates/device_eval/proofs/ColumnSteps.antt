@@ -7,7 +7,7 @@ use Rattle.fc_values.specs.BuiltinTypes.{inner}
 use Rattle.fc_values.specs.Fields.{AnyValue, ValueLocal}
 use Rattle.fc_values.specs.Exports.{SlotValue, slots_of}
 use Rattle.fc_nodes.specs.declared.nodes.Node.{Node}
-use Rattle.fc_nodes.specs.Terms.{term_at, type_of as term_type}
+use Rattle.fc_nodes.specs.Terms.{term_at, term_type}
 use Rattle.value_columns.proofs.Standing.{row_stays}
 use Rattle.alignment.specs.Slots.{FlatEnv}
 use Rattle.alignment.specs.Scopes.{Vars}

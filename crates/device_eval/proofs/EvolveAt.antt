@@ -10,7 +10,7 @@ use Rattle.fc_values.specs.Trees.{Tree, Keep, Done, Then}
 use Rattle.fc_values.specs.Exports.{SlotValue, slot_at}
 use Rattle.fc_nodes.specs.declared.nodes.Node.{Node}
 use Rattle.fc_nodes.specs.Typing.{Scope, HasType, evolving_type}
-use Rattle.fc_nodes.specs.Terms.{type_of, Evolution, ByRep, ByShare, Term, Evolve, OfEvolve, kept, kept_before, size}
+use Rattle.fc_nodes.specs.Terms.{term_type, Evolution, ByRep, ByShare, Term, Evolve, OfEvolve, kept, kept_before, size}
 use Rattle.fc_nodes.specs.Terms.{term_at}
 use Rattle.fc_nodes.specs.Flat.{tree_at}
 use Rattle.fc_nodes.proofs.Places.{formed_above}
@@ -227,8 +227,8 @@ module _ {S : Situation} {ns : List Node} {lay : LayoutValue} {p : ℕ} {v : Evo
 
   pub evolve_types : {D : Declarations} {scope : Scope} → MayAt D S ns scope p vars env → {q q' : ℕ} → q ≡ get_or ks 0 q
       → q' ≡ get_or ks 1 q'
-      → (t ≡ TypeLocal (inner t)) × (type_of (term_at ns q) ≡ TypeLocal (inner t))
-      × (type_of (term_at ns q') ≡ TypeLocal (inner t))
+      → (t ≡ TypeLocal (inner t)) × (term_type (term_at ns q) ≡ TypeLocal (inner t))
+      × (term_type (term_at ns q') ≡ TypeLocal (inner t))
   evolve_types {D} {scope} may {q} {q'} e f =
       let o = evolve_kids in
       let l = o.long in
@@ -237,8 +237,8 @@ module _ {S : Situation} {ns : List Node} {lay : LayoutValue} {p : ℕ} {v : Evo
       let typed : HasType D scope p (Evolve t v A B) = subst (HasType D scope p) o.term may.typed in
       let same = ap TypeLocal (sym (ap inner typed.1)) in (
         typed.1 ∙ same,
-        ap (λ k. type_of (term_at ns k)) e' ∙ typed.2 ∙ same,
-        ap (λ k. type_of (term_at ns k)) f'
+        ap (λ k. term_type (term_at ns k)) e' ∙ typed.2 ∙ same,
+        ap (λ k. term_type (term_at ns k)) f'
             ∙ typed.3 ∙ same,
       )
 

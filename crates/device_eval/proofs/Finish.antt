@@ -5,7 +5,7 @@ use Rattle.fc_values.specs.Fields.{AnyValue, ValueLocal, with_number}
 use Rattle.fc_values.specs.BuiltinTypes.{inner}
 use Rattle.fc_values.specs.Trees.{Tree, Copy}
 use Rattle.fc_values.specs.Exports.{SlotValue, slot_at}
-use Rattle.fc_nodes.specs.Terms.{type_of, kept_types}
+use Rattle.fc_nodes.specs.Terms.{term_type, kept_types}
 use Rattle.fc_nodes.specs.Program.{Program, Unfolding, unfolding_of, IsProgram}
 use Rattle.fc_nodes.specs.Flat.{FitsTree, IsWellTyped, tree_at, Marked, HaveForms, tree_export, IsExport}
 use Rattle.device_eval.specs.Evaluation.{Outcome, eval_of}
@@ -23,7 +23,7 @@ module _ (P : Program) (s : Copy) (p : IsProgram P) (h : FitsCopy (unfolding_of 
   abbrev pub outcome : Outcome
   outcome = eval_of (situation_of P.declared s) 0 U.main [] (env_of s)
 
-  there : Gives P.declared.ceiling s.device (near_devices s.near) (type_of U.main) (FitsTree P.declared.ceiling U.main) outcome
+  there : Gives P.declared.ceiling s.device (near_devices s.near) (term_type U.main) (FitsTree P.declared.ceiling U.main) outcome
   there = main_gives U s p.lawful p.typed h
 
   -- evaluation isn't stuck
@@ -35,7 +35,7 @@ module _ (P : Program) (s : Copy) (p : IsProgram P) (h : FitsCopy (unfolding_of 
     pub main_local : IsLocalOf P.declared.ceiling p.root.0 v
     main_local =
         let same = only_one outcome there.value v there.tree tree there.is e in
-        subst (IsLocalOf P.declared.ceiling p.root.0) same.0 (local_of_type P.declared.ceiling (with_number s.device (near_devices s.near)) (type_of U.main) p.root.0 there.value p.root.1 there.fits)
+        subst (IsLocalOf P.declared.ceiling p.root.0) same.0 (local_of_type P.declared.ceiling (with_number s.device (near_devices s.near)) (term_type U.main) p.root.0 there.value p.root.1 there.fits)
 
     -- and so does the tree
     pub main_formed : FitsTree P.declared.ceiling U.main tree
@@ -52,7 +52,7 @@ module _ (P : Program) (s : Copy) (p : IsProgram P) (h : FitsCopy (unfolding_of 
         let is = l.is in
         let same : l.value ≡ v = cc in
         let fits = subst (Fits P.declared.ceiling p.root.0) same l.fits in
-        let inside : p.root.0 ≡ inner (type_of U.main) = sym (ap inner p.root.1) in
+        let inside : p.root.0 ≡ inner (term_type U.main) = sym (ap inner p.root.1) in
         record { value = subst (λ t. Fits P.declared.ceiling t v) inside fits; tree = main_formed (ValueLocal v) (tree_at U.main 0 ys) e }
 
     pub finished_export : Marked U.main 0 ys → ((j : ℕ) → (slot_at j ys).0 ≡ false → slot_at j ys ≡ slot_at j xs) → HaveForms (kept_types U.main) xs → length ys ≡ length xs → IsExport U (record { value = v; slots = ys })

@@ -10,7 +10,7 @@ use Rattle.fc_values.specs.Trees.{Tree, Keep, Done, Then}
 use Rattle.fc_values.specs.Exports.{SlotValue, slot_at}
 use Rattle.fc_nodes.specs.declared.nodes.Node.{Node}
 use Rattle.fc_nodes.specs.Typing.{Scope, HasType}
-use Rattle.fc_nodes.specs.Terms.{type_of, Term, If, OfIf, kept, kept_before, size, term_at, Laid}
+use Rattle.fc_nodes.specs.Terms.{term_type, Term, If, OfIf, kept, kept_before, size, term_at, Laid}
 use Rattle.fc_nodes.specs.Flat.{by_truth, IfTruth, tree_at, Clear, Marked}
 use Rattle.fc_nodes.proofs.Places.{formed_above}
 use Rattle.fc_nodes.proofs.Kids.{ThreeKids, if_laid}
@@ -242,25 +242,25 @@ module _ {S : Situation} {ns : List Node} {lay : LayoutValue} {p : ℕ} {t : Val
   typed_if {D} {scope} may = let o = if_kids in subst (HasType D scope p) o.term may.typed
 
   pub if_condition_type : {D : Declarations} {scope : Scope} → MayAt D S ns scope p vars env → {q : ℕ}
-      → q ≡ get_or ks 0 q → type_of (term_at ns q) ≡ TypeLocal BoolType
+      → q ≡ get_or ks 0 q → term_type (term_at ns q) ≡ TypeLocal BoolType
   if_condition_type may {q} e =
       let o = if_kids in
       let l = o.long in
       let e' = kid_is ks 0 q e (omega (arith, l)) in
       let typed = typed_if may in
-      ap (λ k. type_of (term_at ns k)) e' ∙ typed.2
+      ap (λ k. term_type (term_at ns k)) e' ∙ typed.2
 
-  arm_type : {u : LocalType} (r : Bool) → type_of A ≡ TypeLocal u → type_of B ≡ TypeLocal u
-      → type_of (term_at ns (get_or ks (pick r 1 2) 0)) ≡ TypeLocal u
+  arm_type : {u : LocalType} (r : Bool) → term_type A ≡ TypeLocal u → term_type B ≡ TypeLocal u
+      → term_type (term_at ns (get_or ks (pick r 1 2) 0)) ≡ TypeLocal u
   arm_type true a b = a
   arm_type false a b = b
 
   pub if_types : {D : Declarations} {scope : Scope} → MayAt D S ns scope p vars env → (r : Bool) {q : ℕ}
-      → q ≡ get_or ks (pick r 1 2) 0 → (t ≡ TypeLocal (inner t)) × (type_of (term_at ns q) ≡ TypeLocal (inner t))
+      → q ≡ get_or ks (pick r 1 2) 0 → (t ≡ TypeLocal (inner t)) × (term_type (term_at ns q) ≡ TypeLocal (inner t))
   if_types may r {q} e =
       let typed = typed_if may in
       let same = ap TypeLocal (sym (ap inner typed.1)) in
-      (typed.1 ∙ same, ap (λ k. type_of (term_at ns k)) e ∙ arm_type r typed.3 typed.4 ∙ same)
+      (typed.1 ∙ same, ap (λ k. term_type (term_at ns k)) e ∙ arm_type r typed.3 typed.4 ∙ same)
 
   -- the branch
   arm_at : (r : Bool) → (arm_place S p t X A B K vars env xs can_if r ≡ get_or ks (pick r 1 2) 0)

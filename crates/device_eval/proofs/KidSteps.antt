@@ -6,7 +6,7 @@ use Rattle.fc_values.specs.BuiltinTypes.{Takes, takes_add, takes_sub, takes_mul,
 use Rattle.fc_values.specs.BuiltinTypes.{takes_less, takes_equal, takes_and, takes_or, takes_not, takes_mux, takes_pair}
 use Rattle.fc_values.specs.BuiltinTypes.{takes_fst, takes_snd, inners}
 use Rattle.fc_nodes.specs.declared.nodes.Node.{Node}
-use Rattle.fc_nodes.specs.Terms.{size, term_at, terms_by, type_of as term_type}
+use Rattle.fc_nodes.specs.Terms.{size, term_at, terms_by, term_type}
 use Rattle.fc_nodes.specs.Typing.{types_of}
 use Rattle.fc_nodes.proofs.Places.{laid_within}
 use Rattle.device_eval.specs.Rows.{Row}

@@ -7,7 +7,7 @@ use Rattle.fc_values.specs.Trees.{Keep, Done, Then}
 use Rattle.fc_values.specs.Exports.{SlotValue}
 use Rattle.fc_nodes.specs.declared.nodes.Node.{Node}
 use Rattle.fc_nodes.specs.Typing.{Scope, HasType}
-use Rattle.fc_nodes.specs.Terms.{type_of, Term, Let, OfLet, kept, kept_before, size, term_at}
+use Rattle.fc_nodes.specs.Terms.{term_type, Term, Let, OfLet, kept, kept_before, size, term_at}
 use Rattle.fc_nodes.specs.Flat.{tree_at}
 use Rattle.fc_nodes.proofs.Places.{formed_above}
 use Rattle.fc_nodes.proofs.Kids.{TwoKids, let_laid}
@@ -164,7 +164,7 @@ module _ {S : Situation} {ns : List Node} {lay : LayoutValue} {p : ℕ} {t : Val
 
     pub let_may_body : {q : ℕ} (e : q ≡ get_or ks 0 q) {va : AnyValue} {ys : List SlotValue}
         → DidAt S ns q vars env xs va ys → {q' : ℕ} → q' ≡ get_or ks 1 q'
-        → MayAt D S ns ((p, type_of (term_at ns q)) ∷ scope) q' ((p, va) ∷ vars) env
+        → MayAt D S ns ((p, term_type (term_at ns q)) ∷ scope) q' ((p, va) ∷ vars) env
     let_may_body {q} e {va} {ys} did {q'} f =
         let o = let_kids in
         let l = o.long in
@@ -173,15 +173,15 @@ module _ {S : Situation} {ns : List Node} {lay : LayoutValue} {p : ℕ} {t : Val
         let d = did_a e did in
         let b = may_let_body may_l (ap (eval_of S (suc p) A vars) (env_child 0 (Let t A B) A K K (λ zs. refl) env)
         ∙ d.gives) in
-        let m = subst (λ n. May D S ((p, type_of A) ∷ scope) (suc p + size A) B (near_numbers env.near) ((p, va) ∷ vars)
+        let m = subst (λ n. May D S ((p, term_type A) ∷ scope) (suc p + size A) B (near_numbers env.near) ((p, va) ∷ vars)
         n) (env_child 1 (Let t A B) B K (K + kept A) (λ zs. refl) env) b in
-        subst (λ u. MayAt D S ns ((p, type_of u) ∷ scope) q' ((p, va) ∷ vars) env) (ap (term_at ns) (sym e'))
+        subst (λ u. MayAt D S ns ((p, term_type u) ∷ scope) q' ((p, va) ∷ vars) env) (ap (term_at ns) (sym e'))
         (may_at env (sym (f' ∙ o.second_is)) (ap (term_at ns) (sym f')) (slot_1 ∙ ap (kept_before ns) (sym f')) m)
 
-    pub let_type : {q : ℕ} → q ≡ get_or ks 1 q → t ≡ type_of (term_at ns q)
+    pub let_type : {q : ℕ} → q ≡ get_or ks 1 q → t ≡ term_type (term_at ns q)
     let_type {q} f =
         let o = let_kids in
         let l = o.long in
         let f' = kid_is ks 1 q f (omega (arith, l)) in
         let typed : HasType D scope p (Let t A B) = subst (HasType D scope p) o.term may.typed in
-        typed.0 ∙ ap (λ k. type_of (term_at ns k)) (sym f')
+        typed.0 ∙ ap (λ k. term_type (term_at ns k)) (sym f')

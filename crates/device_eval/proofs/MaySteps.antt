@@ -8,7 +8,7 @@ use Rattle.fc_values.specs.BuiltinTypes.{inner}
 use Rattle.fc_values.specs.Trees.{Tree}
 use Rattle.fc_nodes.specs.declared.nodes.Node.{Node}
 use Rattle.fc_nodes.specs.Terms.{Sort, OfLeaf, OfApply, OfNbr, OfEvolve, OfIf, OfLet, HasNode, WellFormed, term_by}
-use Rattle.fc_nodes.specs.Terms.{term_at, Evolution, Term, Terms, Apply, Nbr, Evolve, If, Let, NoMore, More, type_of}
+use Rattle.fc_nodes.specs.Terms.{term_at, Evolution, Term, Terms, Apply, Nbr, Evolve, If, Let, NoMore, More, term_type}
 use Rattle.fc_nodes.specs.Terms.{size}
 use Rattle.fc_nodes.specs.Typing.{Scope, evolving_type, HasType, HaveTypes}
 use Rattle.fc_nodes.specs.Flat.{FitsTree}
@@ -40,16 +40,16 @@ same_local e = cc
 
 module _ {D : Declarations} {S : Situation} {scope : Scope} {p : ℕ} {t : Term} {ds : List ℕ} {vars : Vars} {env : Env}
     (may : May D S scope p t ds vars env) where
-  pub may_gives : Gives S.ceiling S.device ds (type_of t) (FitsTree S.ceiling t) (eval_of S p t vars env)
+  pub may_gives : Gives S.ceiling S.device ds (term_type t) (FitsTree S.ceiling t) (eval_of S p t vars env)
   may_gives = progress D S may.suits t scope p ds vars env may.typed may.vars may.env
 
   -- the value fits the node's type, over exactly the device and its aligned neighbours
   pub may_value : {v : AnyValue} {tree : Tree} → eval_of S p t vars env ≡ Some (v, tree)
-      → FitsOver S.ceiling (with_number S.device ds) (type_of t) v
+      → FitsOver S.ceiling (with_number S.device ds) (term_type t) v
   may_value {v} {tree} e =
       let g = may_gives in
       let same : g.value ≡ v = ap outcome_value (sym g.is ∙ e) in
-      subst (FitsOver S.ceiling (with_number S.device ds) (type_of t)) same g.fits
+      subst (FitsOver S.ceiling (with_number S.device ds) (term_type t)) same g.fits
 
 -- terms one after another
 may_kids : (D : Declarations) (S : Situation) (scope : Scope) (ds : List ℕ) (vars : Vars) (env : Env) (xs : Terms)
@@ -84,7 +84,7 @@ module _ {D : Declarations} {S : Situation} {scope : Scope} {p : ℕ} {t : Value
     may_evolve_body {first} {tree} {x} ea ex =
         let s : LocalType = inner t in
         let is : inner t ≡ m.typed.0 = ap inner m.typed.1 in
-        let la = local_of_type S.ceiling (with_number S.device ds) (type_of a) m.typed.0 (ValueLocal first) m.typed.2
+        let la = local_of_type S.ceiling (with_number S.device ds) (term_type a) m.typed.0 (ValueLocal first) m.typed.2
         (may_value may_evolve_first ea) in
         let fits : Fits S.ceiling s first = subst (λ u. Fits S.ceiling u first) (sym is)
         (subst (Fits S.ceiling m.typed.0) (same_local (sym la.is)) la.fits) in
@@ -138,13 +138,13 @@ module _ {D : Declarations} {S : Situation} {scope : Scope} {p : ℕ} {t : Value
         }
 
     pub may_let_body : {v : AnyValue} {tree : Tree} → eval_of S (suc p) a vars (child_env 0 env) ≡ Some (v, tree)
-        → May D S ((p, type_of a) ∷ scope) (suc p + size a) b ds ((p, v) ∷ vars) (child_env 1 env)
+        → May D S ((p, term_type a) ∷ scope) (suc p + size a) b ds ((p, v) ∷ vars) (child_env 1 env)
     may_let_body {v} {tree} e = record {
       typed = m.typed.2;
       suits = m.suits;
       vars = (
         refl,
-        bound_fits S.ceiling S.device ds (type_of a) v m.env.rising m.env.other (may_value may_let_value e),
+        bound_fits S.ceiling S.device ds (term_type a) v m.env.rising m.env.other (may_value may_let_value e),
         m.vars,
       );
       env = let_sees_body S.ceiling S.device ds env t a b m.env;
@@ -173,7 +173,7 @@ may_near {D} {S} {scope} {p} {t} k {ds} {vars} env m =
     subst (λ ns. May D S scope p t ns vars (env_at t k env)) (sym m.env.numbers ∙ numbers_same t k env.near) m
 
 -- the type that a node names
-pub type_by : (go : ℕ → Term) (s : Sort) (t : ValueType) (ks : List ℕ) → type_of (term_by go s t ks) ≡ t
+pub type_by : (go : ℕ → Term) (s : Sort) (t : ValueType) (ks : List ℕ) → term_type (term_by go s t ks) ≡ t
 type_by go (OfLeaf l) t ks = refl
 type_by go (OfApply o) t ks = refl
 type_by go OfNbr t [] = refl
@@ -194,5 +194,5 @@ type_by go OfLet t (a ∷ b ∷ []) = refl
 type_by go OfLet t (a ∷ b ∷ c ∷ ks) = refl
 
 pub node_type : {ns : List Node} (p : ℕ) {s : Sort} {t : ValueType} {ks : List ℕ} → WellFormed ns → HasNode ns p s t ks
-    → type_of (term_at ns p) ≡ t
-node_type {ns} p {s} {t} {ks} w h = ap type_of (term_is ns (formed_above ns w) p s t ks h) ∙ type_by (term_at ns) s t ks
+    → term_type (term_at ns p) ≡ t
+node_type {ns} p {s} {t} {ks} w h = ap term_type (term_is ns (formed_above ns w) p s t ks h) ∙ type_by (term_at ns) s t ks

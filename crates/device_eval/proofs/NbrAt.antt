@@ -10,7 +10,7 @@ use Rattle.fc_values.specs.Trees.{Keep, Done, Then}
 use Rattle.fc_values.specs.Exports.{SlotValue, slot_at}
 use Rattle.fc_nodes.specs.declared.nodes.Node.{Node}
 use Rattle.fc_nodes.specs.Typing.{Scope, HasType}
-use Rattle.fc_nodes.specs.Terms.{type_of, Term, Nbr, OfNbr, kept, kept_before, term_at}
+use Rattle.fc_nodes.specs.Terms.{term_type, Term, Nbr, OfNbr, kept, kept_before, term_at}
 use Rattle.fc_nodes.specs.Flat.{tree_at}
 use Rattle.fc_nodes.proofs.Places.{formed_above}
 use Rattle.fc_nodes.proofs.Kids.{OneKid, nbr_laid}
@@ -157,11 +157,11 @@ module _ {S : Situation} {ns : List Node} {lay : LayoutValue} {p : ℕ} {t : Val
       may_at env (sym (e' ∙ o.first_is)) (ap (term_at ns) (sym e')) (slot_next ∙ ap (kept_before ns) (sym e')) m
 
   pub nbr_types : {D : Declarations} {scope : Scope} → MayAt D S ns scope p vars env → {q : ℕ} → q ≡ get_or ks 0 q
-      → (t ≡ TypeField (inner t)) × (type_of (term_at ns q) ≡ TypeLocal (inner t))
+      → (t ≡ TypeField (inner t)) × (term_type (term_at ns q) ≡ TypeLocal (inner t))
   nbr_types {D} {scope} may {q} e =
       let o = one in
       let l = o.long in
       let e' = kid_is ks 0 q e (omega (arith, l)) in
       let typed : HasType D scope p (Nbr t (term_at ns (get_or ks 0 0))) = subst (HasType D scope p) o.term may.typed in
       let same = sym (ap inner typed.1) in
-      (typed.1 ∙ ap TypeField same, ap (λ k. type_of (term_at ns k)) e' ∙ typed.2 ∙ ap TypeLocal same)
+      (typed.1 ∙ ap TypeField same, ap (λ k. term_type (term_at ns k)) e' ∙ typed.2 ∙ ap TypeLocal same)

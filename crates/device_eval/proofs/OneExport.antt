@@ -9,7 +9,7 @@ use Rattle.fc_values.specs.Values.{LocalValue, IntValue, BoolValue, PairValue, F
 use Rattle.fc_values.specs.Fields.{AnyValue, ValueLocal, is_in, with_number}
 use Rattle.fc_values.specs.BuiltinTypes.{inner}
 use Rattle.fc_values.specs.Trees.{Tree, TreeExport, NearCopy, Copy}
-use Rattle.fc_nodes.specs.Terms.{type_of}
+use Rattle.fc_nodes.specs.Terms.{term_type}
 use Rattle.fc_nodes.specs.Typing.{HasType}
 use Rattle.fc_nodes.specs.Program.{Program, Unfolding, unfolding_of, InputIsLawful, InputsAreLawful, IsLawful, IsProgram}
 use Rattle.fc_nodes.specs.Flat.{FitsTree, IsWellTyped}
@@ -91,20 +91,20 @@ copy_suits D s l h = record {
 
 -- the outcome of `main`
 pub main_gives : (U : Unfolding) (s : Copy) → IsLawful U.declared → HasType U.declared [] 0 U.main → FitsCopy U s
-    → Gives U.declared.ceiling s.device (near_devices s.near) (type_of U.main) (FitsTree U.declared.ceiling U.main) (eval_of (situation_of U.declared s) 0 U.main [] (env_of s))
+    → Gives U.declared.ceiling s.device (near_devices s.near) (term_type U.main) (FitsTree U.declared.ceiling U.main) (eval_of (situation_of U.declared s) 0 U.main [] (env_of s))
 main_gives U s l ty h = progress U.declared (situation_of U.declared s) (copy_suits U.declared s l h.inputs) U.main [] 0 (near_devices s.near) [] (env_of s) ty tt (copy_env U s l h)
 
 -- the export of a copy, as the function gives it
-pub progress_copy : (U : Unfolding) (s : Copy) (t : LocalType) → IsLawful U.declared → HasType U.declared [] 0 U.main → type_of U.main ≡ TypeLocal t → FitsCopy U s
+pub progress_copy : (U : Unfolding) (s : Copy) (t : LocalType) → IsLawful U.declared → HasType U.declared [] 0 U.main → term_type U.main ≡ TypeLocal t → FitsCopy U s
     → (e : TreeExport) × (eval_of (situation_of U.declared s) 0 U.main [] (env_of s) ≡ Some (ValueLocal e.value, e.tree)) × IsWellTyped U e
 progress_copy U s t l ty root h =
     let g = main_gives U s l ty h in
-    let v = local_of_type U.declared.ceiling (with_number s.device (near_devices s.near)) (type_of U.main) t g.value root g.fits in
-    let inside : t ≡ inner (type_of U.main) = sym (ap inner root) in
+    let v = local_of_type U.declared.ceiling (with_number s.device (near_devices s.near)) (term_type U.main) t g.value root g.fits in
+    let inside : t ≡ inner (term_type U.main) = sym (ap inner root) in
     let e : TreeExport = record { value = v.value; tree = g.tree } in
     (e, g.is ∙ ap (λ (w : AnyValue). Some (w, g.tree)) v.is, record { value = subst (λ u. Fits U.declared.ceiling u v.value) inside v.fits; tree = g.formed })
 
-pub has_one_export : (U : Unfolding) (s : Copy) (t : LocalType) → IsLawful U.declared → HasType U.declared [] 0 U.main → type_of U.main ≡ TypeLocal t → FitsCopy U s → HasOneExport U s
+pub has_one_export : (U : Unfolding) (s : Copy) (t : LocalType) → IsLawful U.declared → HasType U.declared [] 0 U.main → term_type U.main ≡ TypeLocal t → FitsCopy U s → HasOneExport U s
 has_one_export U s t l ty root h = by_export (progress_copy U s t l ty root h)
   where
     by_export : (e : TreeExport) × (eval_of (situation_of U.declared s) 0 U.main [] (env_of s) ≡ Some (ValueLocal e.value, e.tree)) × IsWellTyped U e → HasOneExport U s

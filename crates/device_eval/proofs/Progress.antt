@@ -11,7 +11,7 @@ use Rattle.fc_values.specs.BuiltinTypes.{inner}
 use Rattle.fc_values.proofs.BuiltinTyped.{builtin_typed}
 use Rattle.fc_values.specs.Trees.{Tree, Trees, Keep, Done, Then, leaf, child}
 use Rattle.fc_nodes.specs.Terms.{Leaf, Literal, Variable, Sense, Uid, NbrLink, Evolution, ByRep, ByShare, Term, Terms}
-use Rattle.fc_nodes.specs.Terms.{Plain, Apply, Nbr, Evolve, If, Let, NoMore, More, type_of, size}
+use Rattle.fc_nodes.specs.Terms.{Plain, Apply, Nbr, Evolve, If, Let, NoMore, More, term_type, size}
 use Rattle.fc_nodes.specs.Typing.{Scope, LeafHasType, evolving_type, types_of, HasType, HaveTypes}
 use Rattle.fc_nodes.specs.Flat.{HasKids, KeepsWith, OneKid, TwoKids, KeepsTruth, FitsTree, FitTrees}
 use Rattle.alignment.specs.Environments.{NearTree, Env, child_env, branch_env, near_numbers}
@@ -383,12 +383,12 @@ module _ (D : Declarations) (S : Situation) (suits : Suits D S) where
       }
 
   if_gives : (t : ValueType) (c a b : Term) (s : LocalType) (p : ℕ) (ds ms ns : List ℕ) (vars : Vars) (env : Env)
-      (vc : AnyValue) (tc : Tree) (k : Bool) → t ≡ TypeLocal s → type_of a ≡ TypeLocal s → type_of b ≡ TypeLocal s
+      (vc : AnyValue) (tc : Tree) (k : Bool) → t ≡ TypeLocal s → term_type a ≡ TypeLocal s → term_type b ≡ TypeLocal s
       → eval_of S (suc p) c vars (child_env 0 env) ≡ Some (vc, tc) → vc ≡ ValueLocal (BoolValue k)
       → FitsTree S.ceiling c tc
-      → Gives S.ceiling S.device ms (type_of a) (FitsTree S.ceiling a)
+      → Gives S.ceiling S.device ms (term_type a) (FitsTree S.ceiling a)
       (eval_of S (suc p + size c) a vars (child_env 1 (branch_env true env)))
-      → Gives S.ceiling S.device ns (type_of b) (FitsTree S.ceiling b)
+      → Gives S.ceiling S.device ns (term_type b) (FitsTree S.ceiling b)
       (eval_of S (suc p + size c + size a) b vars (child_env 1 (branch_env false env)))
       → Gives S.ceiling S.device ds t (FitsTree S.ceiling (If t c a b)) (eval_of S p (If t c a b) vars env)
   if_gives t c a b s p ds ms ns vars env vc tc true et ea eb ec ek fc ga gb =
@@ -398,7 +398,7 @@ module _ (D : Declarations) (S : Situation) (suits : Suits D S) where
         tree = Keep (Some (BoolValue true)) (Then tc (Then ga.tree Done));
         is = rw (ec, ek, is) refl;
         fits =
-            local_over S.ceiling (with_number S.device ms) (with_number S.device ds) (type_of a) t s ga.value ea et
+            local_over S.ceiling (with_number S.device ms) (with_number S.device ds) (term_type a) t s ga.value ea et
             ga.fits;
         formed = (fc, (ga.formed, tt));
       }
@@ -409,15 +409,15 @@ module _ (D : Declarations) (S : Situation) (suits : Suits D S) where
         tree = Keep (Some (BoolValue false)) (Then tc (Then gb.tree Done));
         is = rw (ec, ek, is) refl;
         fits =
-            local_over S.ceiling (with_number S.device ns) (with_number S.device ds) (type_of b) t s gb.value eb et
+            local_over S.ceiling (with_number S.device ns) (with_number S.device ds) (term_type b) t s gb.value eb et
             gb.fits;
         formed = (fc, (gb.formed, tt));
       }
 
   let_gives : (t : ValueType) (a b : Term) (p : ℕ) (ds : List ℕ) (vars : Vars) (env : Env) (va : AnyValue) (ta : Tree)
-      → t ≡ type_of b
+      → t ≡ term_type b
       → eval_of S (suc p) a vars (child_env 0 env) ≡ Some (va, ta) → FitsTree S.ceiling a ta
-      → Gives S.ceiling S.device ds (type_of b) (FitsTree S.ceiling b)
+      → Gives S.ceiling S.device ds (term_type b) (FitsTree S.ceiling b)
       (eval_of S (suc p + size a) b ((p, va) ∷ vars) (child_env 1 env))
       → Gives S.ceiling S.device ds t (FitsTree S.ceiling (Let t a b)) (eval_of S p (Let t a b) vars env)
   let_gives t a b p ds vars env va ta et ea fa gb =
@@ -433,7 +433,7 @@ module _ (D : Declarations) (S : Situation) (suits : Suits D S) where
   mutual
     pub progress : (t : Term) (scope : Scope) (p : ℕ) (ds : List ℕ) (vars : Vars) (env : Env) → HasType D scope p t
         → VarsFit S.ceiling S.device ds scope vars → FitsEnv S.ceiling S.device ds (FitsTree S.ceiling t) env
-        → Gives S.ceiling S.device ds (type_of t) (FitsTree S.ceiling t) (eval_of S p t vars env)
+        → Gives S.ceiling S.device ds (term_type t) (FitsTree S.ceiling t) (eval_of S p t vars env)
     progress (Plain t l) scope p ds vars env ty vf ef =
         leaf_progress D S suits t l scope p ds (FitsTree S.ceiling (Plain t l)) vars env ty vf ef
     progress (Apply t o xs) scope p ds vars env ty vf ef =
@@ -447,7 +447,7 @@ module _ (D : Declarations) (S : Situation) (suits : Suits D S) where
         let s : LocalType = ty.0 in
         let ga = progress a scope (suc p) ds vars (child_env 0 env) ty.3 vf
         (nbr_sees S.ceiling S.device ds env t a ef) in
-        let la = local_of_type S.ceiling (with_number S.device ds) (type_of a) s ga.value ty.2 ga.fits in
+        let la = local_of_type S.ceiling (with_number S.device ds) (term_type a) s ga.value ty.2 ga.fits in
         let near = subst (λ u. EachNear (Keeps S.ceiling u) env.near) (ap inner ty.1)
         (nbr_keeps S.ceiling S.device ds env t a ef) in
         nbr_gives t a s p ds vars env ga.value ga.tree la.value ty.1 ga.is la.is la.fits ga.formed
@@ -457,19 +457,19 @@ module _ (D : Declarations) (S : Situation) (suits : Suits D S) where
         let s : LocalType = ty.0 in
         let ga = progress a scope (suc p) ds vars (child_env 0 env) ty.4 vf
         (evolve_sees_first S.ceiling S.device ds env t e a b ef) in
-        let la = local_of_type S.ceiling (with_number S.device ds) (type_of a) s ga.value ty.2 ga.fits in
+        let la = local_of_type S.ceiling (with_number S.device ds) (term_type a) s ga.value ty.2 ga.fits in
         let kept = subst (λ u. FitsEnv S.ceiling S.device ds (Keeps S.ceiling u) env) (ap inner ty.1)
         (evolve_keeps S.ceiling S.device ds env t e a b ef) in
         let st = evolves S.ceiling S.device ds e s env la.value kept la.fits in
         let gb = progress b ((p, evolving_type e s) ∷ scope) (suc p + size a) ds ((p, st.value) ∷ vars)
         (child_env 1 env) ty.5 (refl, st.fits, vf) (evolve_sees_body S.ceiling S.device ds env t e a b ef) in
-        let lb = local_of_type S.ceiling (with_number S.device ds) (type_of b) s gb.value ty.3 gb.fits in
+        let lb = local_of_type S.ceiling (with_number S.device ds) (term_type b) s gb.value ty.3 gb.fits in
         evolve_gives D S suits t e a b s p ds vars env ga.value gb.value st.value ga.tree gb.tree la.value lb.value ty.1
         ga.is la.is st.is gb.is lb.is lb.fits ga.formed gb.formed
     progress (If t c a b) scope p ds vars env ty vf ef =
         let gc = progress c scope (suc p) ds vars (child_env 0 env) ty.5 vf
         (if_sees_condition S.ceiling S.device ds env t c a b ef) in
-        let tc = truth_of_type S.ceiling (with_number S.device ds) (type_of c) gc.value ty.2 gc.fits in
+        let tc = truth_of_type S.ceiling (with_number S.device ds) (term_type c) gc.value ty.2 gc.fits in
         let ms = those_taking S.ceiling S.device ds env t c a b ef true in
         let ns = those_taking S.ceiling S.device ds env t c a b ef false in
         let ga = progress a scope (suc p + size c) ms vars (child_env 1 (branch_env true env)) ty.6
@@ -482,8 +482,8 @@ module _ (D : Declarations) (S : Situation) (suits : Suits D S) where
     progress (Let t a b) scope p ds vars env ty vf ef =
         let ga = progress a scope (suc p) ds vars (child_env 0 env) ty.1 vf
         (let_sees_value S.ceiling S.device ds env t a b ef) in
-        let bound = bound_fits S.ceiling S.device ds (type_of a) ga.value ef.rising ef.other ga.fits in
-        let gb = progress b ((p, type_of a) ∷ scope) (suc p + size a) ds ((p, ga.value) ∷ vars) (child_env 1 env) ty.2
+        let bound = bound_fits S.ceiling S.device ds (term_type a) ga.value ef.rising ef.other ga.fits in
+        let gb = progress b ((p, term_type a) ∷ scope) (suc p + size a) ds ((p, ga.value) ∷ vars) (child_env 1 env) ty.2
         (refl, bound, vf) (let_sees_body S.ceiling S.device ds env t a b ef) in
         let_gives t a b p ds vars env ga.value ga.tree ty.0 ga.is ga.formed gb
 

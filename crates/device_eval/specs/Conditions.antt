@@ -4,7 +4,7 @@ use Rattle.fc_values.specs.Types.{LocalType, ValueType, TypeLocal, TypeField, De
 use Rattle.fc_values.specs.Values.{LocalValue, Fits}
 use Rattle.fc_values.specs.Fields.{AnyValue, ValueLocal, ValueField, devices, Rises, AllFit, FitsOver, is_in, with_number}
 use Rattle.fc_values.specs.Trees.{Tree, Copy}
-use Rattle.fc_nodes.specs.Terms.{Term, type_of}
+use Rattle.fc_nodes.specs.Terms.{Term, term_type}
 use Rattle.fc_nodes.specs.Typing.{Scope, sense_type, HasType}
 use Rattle.fc_nodes.specs.Flat.{FitsTree}
 use Rattle.fc_nodes.specs.Program.{Unfolding}
@@ -98,7 +98,7 @@ pub record HasOutcome (n : NodeIn) : Type 0 where
   pub value : AnyValue
   pub tree : Tree
   pub evaluates : Evaluates n.situation n.place n.term n.vars n.env value tree
-  pub fits : FitsOver n.situation.ceiling (with_number n.situation.device n.neighbours) (type_of n.term) value
+  pub fits : FitsOver n.situation.ceiling (with_number n.situation.device n.neighbours) (term_type n.term) value
   pub formed : FitsTree n.situation.ceiling n.term tree
   pub only : (v : AnyValue) (t : Tree) → Evaluates n.situation n.place n.term n.vars n.env v t
       → (v ≡ value) × (t ≡ tree)

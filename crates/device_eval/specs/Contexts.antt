@@ -6,7 +6,7 @@ use Rattle.fc_values.specs.Values.{local_of}
 use Rattle.fc_values.specs.Exports.{SlotValue, slots_of}
 use Rattle.fc_values.specs.Fields.{AnyValue, FitEachOver}
 use Rattle.fc_nodes.specs.declared.nodes.Node.{Node}
-use Rattle.fc_nodes.specs.Terms.{Sort, HasNode, term_at, type_of as term_type}
+use Rattle.fc_nodes.specs.Terms.{Sort, HasNode, term_at, term_type}
 use Rattle.fc_nodes.specs.Typing.{Scope as Types}
 use Rattle.alignment.specs.Slots.{FlatEnv}
 use Rattle.alignment.specs.Scopes.{Vars}

@@ -7,14 +7,14 @@ use Rattle.fc_values.specs.BuiltinTypes.{inner}
 use Rattle.fc_values.specs.Builtins.{builtin_value}
 use Rattle.fc_values.specs.Fields.{AnyValue, ValueLocal, ValueField, FitEachOver, Rises}
 use Rattle.fc_nodes.specs.declared.nodes.Node.{Node}
-use Rattle.fc_nodes.specs.Terms.{term_at, type_of}
+use Rattle.fc_nodes.specs.Terms.{term_at, term_type}
 use Rattle.value_columns.specs.Columns.{row_in, entries_in}
 use Rattle.scope_columns.specs.Words.{SameBelow, value_in, words_for}
 
 -- the types of the nodes at some places
 abbrev pub kid_types : List Node → List ℕ → List ValueType
 kid_types ns [] = []
-kid_types ns (k ∷ ks) = type_of (term_at ns k) ∷ kid_types ns ks
+kid_types ns (k ∷ ks) = term_type (term_at ns k) ∷ kid_types ns ks
 
 -- each of these places is one of a node, where there are so many nodes
 abbrev pub AreWithin : ℕ → List ℕ → Type 0

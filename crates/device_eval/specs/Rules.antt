@@ -13,7 +13,9 @@ use Rattle.alignment.specs.Scopes.{weights, Vars, variable_at}
 use Rattle.device_eval.specs.Neighbours.{kept_there}
 use Rattle.device_eval.specs.Evaluation.{Situation, own_or}
 
--- `Evaluates S p t vars env v tree`: the term t, whose root stands at place p, has the value v and the tree
+-- `Evaluates S p t vars env v tree`: in the situation S the term t, whose root stands at place p, has the value v and
+-- the tree, where the binders in scope have the values vars, and env has the trees of t in the exports of the device
+-- and its aligned neighbours
 mutual
   pub data Evaluates (S : Situation) : ℕ → Term → Vars → Env → AnyValue → Tree → Type 0 where
     -- a number or truth value is itself

@@ -4,7 +4,7 @@ ghost use Rattle.std.specs.Prelude.{◌≡◌, ℕ, ◌+◌, ◌*◌, ◌<◌, O
 ghost use Rattle.fc_values.specs.Builtins.{local_value};
 ghost use Rattle.fc_values.specs.BuiltinTypes.{HasRule, Takes, inner as inner_type, inners};
 ghost use Rattle.fc_values.specs.Types.{leaves, local_type_of, type_of};
-ghost use Rattle.fc_nodes.specs.Terms.{term_at, type_of as term_type};
+ghost use Rattle.fc_nodes.specs.Terms.{term_at, term_type};
 ghost use Rattle.value_columns.specs.Arguments.{arguments_in, leaves_of};
 ghost use Rattle.value_columns.specs.Columns.{row_in, word_in};
 ghost use Rattle.device_eval.specs.Kids.{Applied, AreWithin, EndsWith, Filled, kid_types, rows_for, words_of_all};

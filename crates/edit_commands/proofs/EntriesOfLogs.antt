@@ -7,7 +7,7 @@ use Rattle.fc_values.specs.Numbers.{number_of}
 use Rattle.fc_values.specs.Types.{Input}
 use Rattle.fc_values.specs.Values.{LocalValue}
 use Rattle.fc_nodes.specs.Program.{Unfolding}
-use Rattle.fc_nodes.specs.Terms.{type_of}
+use Rattle.fc_nodes.specs.Terms.{term_type}
 use Rattle.value_trees.specs.KeptReads.{has_type, misfit_of}
 use Rattle.value_trees.specs.KeptExports.{ListsHaveExports}
 use Rattle.topology.specs.Networks.{Network, lives}
@@ -20,14 +20,14 @@ use Rattle.edit_commands.specs.declared.edits.EditWord.TheVariants as first
 use Rattle.edit_commands.specs.declared.types.Fault.{Fault}
 use Rattle.edit_commands.specs.Agreement.{value_in}
 use Rattle.fc_values.specs.Names.{is_name}
-use Rattle.edit_commands.specs.Words.{if_device, device_of}
+use Rattle.edit_commands.specs.Words.{if_device, written_device}
 use Rattle.edit_commands.specs.Lines.{words_of}
-use Rattle.edit_commands.specs.Values.{value_of}
-use Rattle.edit_commands.specs.EditLines.{EditLine, LinkLine, UnlinkLine, SetLine, PokeLine, JoinLine, LeaveLine, with_two, with_three, values_of, input_number, device_with, edit_word, line_by, edit_line}
+use Rattle.edit_commands.specs.Values.{written_value}
+use Rattle.edit_commands.specs.EditLines.{EditLine, LinkLine, UnlinkLine, SetLine, PokeLine, JoinLine, LeaveLine, with_two, with_three, values_of, input_index, device_with, edit_word, edit_line_by, edit_line}
 use Rattle.edit_commands.specs.Code.{LineFits}
-use Rattle.edit_commands.specs.LineByLine.{unless, Lines, AllLines, StopsAt, onto, and_lines, lines_from, AreSaid, SaidBy}
-use Rattle.edit_commands.specs.Judging.{edit_fault, fits_kept, IsEdit}
-use Rattle.edit_commands.specs.Logs.{LogLine, BeginLine, EndLine, IdleLine, OfEdit, idle_line, edit_in, log_line, line_fault, after_line, text_judged, line_judged, log_of, IsEntry}
+use Rattle.edit_commands.specs.LineByLine.{unless_fault, Lines, AllLines, StopsAt, onto, and_lines, lines_from, AreSaid, SaidBy}
+use Rattle.edit_commands.specs.Judging.{edit_line_fault, fits_kept, IsEdit}
+use Rattle.edit_commands.specs.Logs.{LogLine, BeginLine, EndLine, IdleLine, OfEdit, idle_line, edit_in, log_line, log_line_fault, network_after, log_text_judged, log_line_judged, log_of, IsEntry}
 use Rattle.edit_commands.specs.LogEntries.{LogsHaveEntries}
 
 -- ---- a device that joins has a number of at most 65,535
@@ -58,11 +58,11 @@ join_fits None vs h = tt
 join_fits (Some n) None h = tt
 join_fits (Some n) (Some ws) h = h
 
-set_fits : (b : Bool) (is : List Input) (name : List ℕ) (d : Option ℕ) (v : Option LocalValue) → IfSome (if b then with_two (λ n w. SetLine n (input_number is name) w) d v else None) LineFits
-set_fits true is name d v = two_fit (λ n w. SetLine n (input_number is name) w) (λ n w. tt) d v
+set_fits : (b : Bool) (is : List Input) (name : List ℕ) (d : Option ℕ) (v : Option LocalValue) → IfSome (if b then with_two (λ n w. SetLine n (input_index is name) w) d v else None) LineFits
+set_fits true is name d v = two_fit (λ n w. SetLine n (input_index is name) w) (λ n w. tt) d v
 set_fits false is name d v = tt
 
-by_word : (is : List Input) (o : Option EditWord) (words : List (List ℕ)) → IfSome (line_by is o words) LineFits
+by_word : (is : List Input) (o : Option EditWord) (words : List (List ℕ)) → IfSome (edit_line_by is o words) LineFits
 by_word is None words = tt
 by_word is (Some first.Link) [] = tt
 by_word is (Some first.Link) (a ∷ []) = tt
@@ -76,13 +76,13 @@ by_word is (Some first.Unlink) (a ∷ b ∷ c ∷ words) = tt
 by_word is (Some first.Set) [] = tt
 by_word is (Some first.Set) (d ∷ []) = tt
 by_word is (Some first.Set) (d ∷ name ∷ []) = tt
-by_word is (Some first.Set) (d ∷ name ∷ v ∷ []) = set_fits (is_name name) is name (number_of d) (value_of v)
+by_word is (Some first.Set) (d ∷ name ∷ v ∷ []) = set_fits (is_name name) is name (number_of d) (written_value v)
 by_word is (Some first.Set) (d ∷ name ∷ v ∷ x ∷ words) = tt
 by_word is (Some first.Poke) [] = tt
 by_word is (Some first.Poke) (d ∷ []) = tt
-by_word is (Some first.Poke) (d ∷ v ∷ ks) = three_fit PokeLine (λ n w us. tt) (number_of d) (value_of v) (values_of ks)
+by_word is (Some first.Poke) (d ∷ v ∷ ks) = three_fit PokeLine (λ n w us. tt) (number_of d) (written_value v) (values_of ks)
 by_word is (Some first.Join) [] = tt
-by_word is (Some first.Join) (d ∷ vs) = join_fits (device_of d) (values_of vs) (device_small (number_of d))
+by_word is (Some first.Join) (d ∷ vs) = join_fits (written_device d) (values_of vs) (device_small (number_of d))
 by_word is (Some first.Leave) [] = tt
 by_word is (Some first.Leave) (d ∷ []) = leave_fits (number_of d)
 by_word is (Some first.Leave) (d ∷ e ∷ words) = tt
@@ -150,18 +150,18 @@ no_misfit None h = refl
 no_misfit (Some p) h = absurd cc
 
 module _ (lists : ListsHaveExports) (U : Unfolding) where
-  pub an_edit : (n : Network) (flies : ℕ → Bool) (l : EditLine) → LineFits l → edit_fault U n flies l ≡ None → AnEdit U l
+  pub an_edit : (n : Network) (flies : ℕ → Bool) (l : EditLine) → LineFits l → edit_line_fault U n flies l ≡ None → AnEdit U l
   an_edit n flies (LinkLine a b w) m h = record { edit = LinkEdit a b w; says = refl; fits = tt }
   an_edit n flies (UnlinkLine a b) m h = record { edit = UnlinkEdit a b; says = refl; fits = tt }
   an_edit n flies (SetLine d i v) m h = record { edit = SetEdit d i v; says = refl; fits = tt }
   an_edit n flies (PokeLine d v ks) m h =
-      let k = kept_parts (has_type U.declared.ceiling (inner (type_of U.main)) v) (is_none (misfit_of U ks)) (poke_fits (lives n d) (fits_kept U v ks) _ _ h) in
+      let k = kept_parts (has_type U.declared.ceiling (inner (term_type U.main)) v) (is_none (misfit_of U ks)) (poke_fits (lives n d) (fits_kept U v ks) _ _ h) in
       let x = lists U v ks k.0 (no_misfit (misfit_of U ks) k.1) in
       record { edit = PokeEdit d x.0; says = (refl, x.1); fits = x.1.export }
   an_edit n flies (JoinLine x) m h = record { edit = JoinEdit x; says = refl; fits = m }
   an_edit n flies (LeaveLine d) m h = record { edit = LeaveEdit d; says = refl; fits = tt }
 
-  an_entry : (n : Network) (l : LogLine) → MayBe l → line_fault U n l ≡ None → AnEntry U l
+  an_entry : (n : Network) (l : LogLine) → MayBe l → log_line_fault U n l ≡ None → AnEntry U l
   an_entry n (BeginLine d) m h = record { entry = BeginEntry d; says = refl; fits = tt }
   an_entry n (EndLine d) m h = record { entry = EndEntry d; says = refl; fits = tt }
   an_entry n IdleLine m h = record { entry = IdleEntry; says = refl; fits = tt }
@@ -176,31 +176,31 @@ module _ (lists : ListsHaveExports) (U : Unfolding) where
   all_lines r ms ls e f = cc
 
   one_line : (n : Network) (k : ℕ) (o : Option LogLine) (rest : LogLine → Lines Fault LogLine) → IfSome o MayBe
-      → ((l : LogLine) (ms : List (ℕ × LogLine)) → rest l ≡ AllLines ms → Entries ms) → (ls : List (ℕ × LogLine)) → and_lines k (text_judged U n o) rest ≡ AllLines ls → Entries ls
+      → ((l : LogLine) (ms : List (ℕ × LogLine)) → rest l ≡ AllLines ms → Entries ms) → (ls : List (ℕ × LogLine)) → and_lines k (log_text_judged U n o) rest ≡ AllLines ls → Entries ls
   one_line n k None rest m ih ls e = absurd cc
-  one_line n k (Some l) rest m ih ls e = by_fault (line_fault U n l) refl e
+  one_line n k (Some l) rest m ih ls e = by_fault (log_line_fault U n l) refl e
     where
-      by_lines : line_fault U n l ≡ None → (r : Lines Fault LogLine) → rest l ≡ r → onto (k, l) r ≡ AllLines ls → Entries ls
+      by_lines : log_line_fault U n l ≡ None → (r : Lines Fault LogLine) → rest l ≡ r → onto (k, l) r ≡ AllLines ls → Entries ls
       by_lines none (StopsAt j f) h g = absurd cc
       by_lines none (AllLines ms) h g =
           let x = an_entry n l m none in
           let xs = ih l ms h in
           subst Entries (all_lines (AllLines ((k, l) ∷ ms)) ((k, l) ∷ ms) ls refl g) (record { entries = (k, x.entry) ∷ xs.entries; said = (refl, x.says, xs.said); fits = (x.fits, xs.fits) })
 
-      by_fault : (f : Option Fault) → line_fault U n l ≡ f → and_lines k (unless f l) rest ≡ AllLines ls → Entries ls
+      by_fault : (f : Option Fault) → log_line_fault U n l ≡ f → and_lines k (unless_fault f l) rest ≡ AllLines ls → Entries ls
       by_fault (Some f) h g = absurd cc
       by_fault None h g = by_lines h (rest l) refl g
 
-  entries_from : (n : Network) (k : ℕ) (lines : List (List ℕ)) (ls : List (ℕ × LogLine)) → lines_from (line_judged U) after_line n k lines ≡ AllLines ls → Entries ls
+  entries_from : (n : Network) (k : ℕ) (lines : List (List ℕ)) (ls : List (ℕ × LogLine)) → lines_from (log_line_judged U) network_after n k lines ≡ AllLines ls → Entries ls
   entries_from n k [] ls e = subst Entries (all_lines (AllLines []) [] ls refl e) (record { entries = []; said = tt; fits = tt })
-  entries_from n k (line ∷ lines) ls e = by_test (is_empty line) (entries_from n (k + 1) lines) (λ l. entries_from (after_line n l) (k + 1) lines) e
+  entries_from n k (line ∷ lines) ls e = by_test (is_empty line) (entries_from n (k + 1) lines) (λ l. entries_from (network_after n l) (k + 1) lines) e
     where
-      by_test : (b : Bool) → ((ms : List (ℕ × LogLine)) → lines_from (line_judged U) after_line n (k + 1) lines ≡ AllLines ms → Entries ms)
-          → ((l : LogLine) (ms : List (ℕ × LogLine)) → lines_from (line_judged U) after_line (after_line n l) (k + 1) lines ≡ AllLines ms → Entries ms)
-          → (if b then lines_from (line_judged U) after_line n (k + 1) lines else and_lines k (line_judged U n (line_text line)) (λ l. lines_from (line_judged U) after_line (after_line n l) (k + 1) lines)) ≡ AllLines ls → Entries ls
+      by_test : (b : Bool) → ((ms : List (ℕ × LogLine)) → lines_from (log_line_judged U) network_after n (k + 1) lines ≡ AllLines ms → Entries ms)
+          → ((l : LogLine) (ms : List (ℕ × LogLine)) → lines_from (log_line_judged U) network_after (network_after n l) (k + 1) lines ≡ AllLines ms → Entries ms)
+          → (if b then lines_from (log_line_judged U) network_after n (k + 1) lines else and_lines k (log_line_judged U n (line_text line)) (λ l. lines_from (log_line_judged U) network_after (network_after n l) (k + 1) lines)) ≡ AllLines ls → Entries ls
       by_test true ih ihs g = ih ls g
       by_test false ih ihs g =
-          one_line n k (log_line n.declared.inputs (line_text line)) (λ l. lines_from (line_judged U) after_line (after_line n l) (k + 1) lines) (line_may n.declared.inputs (line_text line)) ihs ls g
+          one_line n k (log_line n.declared.inputs (line_text line)) (λ l. lines_from (log_line_judged U) network_after (network_after n l) (k + 1) lines) (line_may n.declared.inputs (line_text line)) ihs ls g
 
 pub logs_have_entries : ListsHaveExports → LogsHaveEntries
 unfolding log_of

@@ -5,7 +5,7 @@ use Rattle.std.specs.Str.{bytes_eq}
 use Rattle.std.proofs.lemmas.Bool.Decides.{nat_tests}
 use Rattle.fc_values.specs.Values.{LocalValue, IntValue, BoolValue, PairValue}
 use Rattle.fc_values.specs.Numbers.{number_of}
-use Rattle.edit_commands.specs.Values.{Since, Bytes, Closed, Reading, reading, part_since, opens, parts, closes, goes_on, step, steps, when_closed, whole_part, value_with, value_of, atom_of}
+use Rattle.edit_commands.specs.Values.{Since, Bytes, Closed, Reading, reading, part_since, opens, parts, closes, goes_on, read_byte, read_bytes, when_closed, whole_part, value_with, written_value, atom_of}
 use Rattle.edit_commands.specs.Narrow.{leaves_in, stand_in, narrow, PartValue, SmallPart, WidePart, atom_part, pair_part, shown_part}
 
 -- the part of a value
@@ -95,7 +95,7 @@ goes_on-part : (os : List (Option LocalValue)) (s : Since LocalValue) (b : ℕ) 
 goes_on-part os (Bytes bs) b = refl
 goes_on-part os (Closed v) b = refl
 
-step-part : (r : Reading LocalValue) (b : ℕ) → step atom_part pair_part (parts_reading r) b ≡ option_map parts_reading (step same PairValue r b)
+step-part : (r : Reading LocalValue) (b : ℕ) → read_byte atom_part pair_part (parts_reading r) b ≡ option_map parts_reading (read_byte same PairValue r b)
 step-part r b = by_tests (b == 40) (b == 44) (b == 41)
   where
     by_tests : (x y z : Bool)
@@ -111,13 +111,13 @@ step-part r b = by_tests (b == 40) (b == 44) (b == 41)
     by_tests false false true = ap (closes pair_part (parts_open r.open_pairs)) (since-part r.since) ∙ closes-part r.open_pairs (part_since same r.since)
     by_tests false false false = goes_on-part r.open_pairs r.since b
 
-steps-part : (r : Reading LocalValue) (bs : List ℕ) → steps atom_part pair_part (parts_reading r) bs ≡ option_map parts_reading (steps same PairValue r bs)
+steps-part : (r : Reading LocalValue) (bs : List ℕ) → read_bytes atom_part pair_part (parts_reading r) bs ≡ option_map parts_reading (read_bytes same PairValue r bs)
 steps-part r [] = refl
 steps-part r (b ∷ bs) =
-    ap (option_and_then (λ s. steps atom_part pair_part s bs)) (step-part r b) ∙ after (step same PairValue r b) (λ s. steps-part s bs)
+    ap (option_and_then (λ s. read_bytes atom_part pair_part s bs)) (step-part r b) ∙ after (read_byte same PairValue r b) (λ s. steps-part s bs)
   where
-    after : (o : Option (Reading LocalValue)) → ((s : Reading LocalValue) → steps atom_part pair_part (parts_reading s) bs ≡ option_map parts_reading (steps same PairValue s bs))
-        → option_and_then (λ s. steps atom_part pair_part s bs) (option_map parts_reading o) ≡ option_map parts_reading (option_and_then (λ s. steps same PairValue s bs) o)
+    after : (o : Option (Reading LocalValue)) → ((s : Reading LocalValue) → read_bytes atom_part pair_part (parts_reading s) bs ≡ option_map parts_reading (read_bytes same PairValue s bs))
+        → option_and_then (λ s. read_bytes atom_part pair_part s bs) (option_map parts_reading o) ≡ option_map parts_reading (option_and_then (λ s. read_bytes same PairValue s bs) o)
     after None h = refl
     after (Some s) h = h s
 
@@ -128,18 +128,18 @@ whole-part r = by_list r.open_pairs ∙ refl
     by_list [] = since-part r.since
     by_list (o ∷ os) = refl
 
-value-part : (text : List ℕ) → value_with atom_part pair_part text ≡ option_map part (value_of text)
+value-part : (text : List ℕ) → value_with atom_part pair_part text ≡ option_map part (written_value text)
 unfolding value_with
 value-part text =
-    ap (option_and_then (whole_part atom_part)) (steps-part (reading [] (Bytes [])) text) ∙ after (steps same PairValue (reading [] (Bytes [])) text)
+    ap (option_and_then (whole_part atom_part)) (steps-part (reading [] (Bytes [])) text) ∙ after (read_bytes same PairValue (reading [] (Bytes [])) text)
   where
     after : (o : Option (Reading LocalValue)) → option_and_then (whole_part atom_part) (option_map parts_reading o) ≡ option_map part (option_and_then (whole_part same) o)
     after None = refl
     after (Some s) = whole-part s
 
 -- what is shown of the part of a text
-pub shown_is_narrow : (text : List ℕ) → option_map shown_part (value_with atom_part pair_part text) ≡ option_map narrow (value_of text)
-shown_is_narrow text = ap (option_map shown_part) (value-part text) ∙ after (value_of text)
+pub shown_is_narrow : (text : List ℕ) → option_map shown_part (value_with atom_part pair_part text) ≡ option_map narrow (written_value text)
+shown_is_narrow text = ap (option_map shown_part) (value-part text) ∙ after (written_value text)
   where
     after : (o : Option LocalValue) → option_map shown_part (option_map part o) ≡ option_map narrow o
     after None = refl

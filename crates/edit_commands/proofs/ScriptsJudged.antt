@@ -19,9 +19,9 @@ use Rattle.edit_commands.specs.declared.types.Fault.{Fault}
 use Rattle.fc_io.specs.Lines.{lines_of, is_empty, line_text}
 use Rattle.edit_commands.specs.Lines.{words_of}
 use Rattle.edit_commands.specs.EditLines.{EditLine, LinkLine, UnlinkLine, SetLine, PokeLine, JoinLine, LeaveLine, with_two, edit_line}
-use Rattle.edit_commands.specs.LineByLine.{unless, Lines, AllLines, StopsAt, onto, and_lines, lines_from, SaidBy}
-use Rattle.edit_commands.specs.Judging.{edit_fault, after_edit, IsEdit, fits_kept}
-use Rattle.edit_commands.specs.Scripts.{ScriptLine, RunLine, DoLine, ScrambleLine, ShowLine, MixLine, Progress, at_start, flies, firings_after, LineFault, OfLine, OfFirings, OfScrambles, firings_fault, line_fault, after_line, line_judged, text_judged, if_some, rounds_of, if_mixed, mixed_edit, script_word, line_by, script_line, lines_in, Within, TooManyLines, CommandValue, RunCommand, EditCommand, ScrambleCommand, ShowCommand, MixCommand, IsCommand, CommandFits, AllCommandsFit, SaidByScript}
+use Rattle.edit_commands.specs.LineByLine.{unless_fault, Lines, AllLines, StopsAt, onto, and_lines, lines_from, SaidBy}
+use Rattle.edit_commands.specs.Judging.{edit_line_fault, edited_network, IsEdit, fits_kept}
+use Rattle.edit_commands.specs.Scripts.{ScriptLine, RunLine, DoLine, ScrambleLine, ShowLine, MixLine, Progress, at_start, flies, firings_after, ScriptLineFault, OfLine, OfFirings, OfScrambles, firings_fault, script_line_fault, progress_after, script_line_judged, script_text_judged, if_some, written_rounds, if_mixed, mixed_edit, script_word, script_line_by, script_line, lines_in, Within, TooManyLines, CommandValue, RunCommand, EditCommand, ScrambleCommand, ShowCommand, MixCommand, IsCommand, CommandFits, AllCommandsFit, SaidByScript}
 use Rattle.edit_commands.specs.JudgedCommands.{net_after, IsLeftBy, MayCome, with_net, after_command, AreJudged, ScriptsAreJudged}
 
 -- ---- what a line that is read may be
@@ -68,13 +68,13 @@ mix_may None l h k = tt
 mix_may (Some r) None h k = tt
 mix_may (Some r) (Some l) h k = (h, k)
 
-line_may : (is : List Input) (o : Option ScriptWord) (word : List ℕ) (words : List (List ℕ)) → IfSome (line_by is o word words) MayBe
+line_may : (is : List Input) (o : Option ScriptWord) (word : List ℕ) (words : List (List ℕ)) → IfSome (script_line_by is o word words) MayBe
 line_may is None word words = do_may (edit_line is (word ∷ words))
 line_may is (Some first.Run) word [] = tt
-line_may is (Some first.Run) word (r ∷ []) = run_may (rounds_of r) (some_rounds (number_of r))
+line_may is (Some first.Run) word (r ∷ []) = run_may (written_rounds r) (some_rounds (number_of r))
 line_may is (Some first.Run) word (r ∷ s ∷ words) = tt
 line_may is (Some first.Mix) word [] = tt
-line_may is (Some first.Mix) word (r ∷ words) = mix_may (rounds_of r) (mixed_edit is words) (some_rounds (number_of r)) (mixed_is (edit_line is words))
+line_may is (Some first.Mix) word (r ∷ words) = mix_may (written_rounds r) (mixed_edit is words) (some_rounds (number_of r)) (mixed_is (edit_line is words))
 line_may is (Some first.Scramble) word [] = tt
 line_may is (Some first.Scramble) word (n ∷ []) = scramble_may (number_of n)
 line_may is (Some first.Scramble) word (n ∷ m ∷ words) = tt
@@ -96,7 +96,7 @@ poke_there true k f g h = refl
 poke_there false k f g h = absurd cc
 
 -- the edit of a line without a fault is allowed
-allowed : (U : Unfolding) (start : Core) (p : Progress) (l : EditLine) (e : EditValue) → IsEdit U l e → edit_fault U p.net (flies start p.quiet) l ≡ None → (c : Core) → IsLeftBy start p c → core_fault c e ≡ None
+allowed : (U : Unfolding) (start : Core) (p : Progress) (l : EditLine) (e : EditValue) → IsEdit U l e → edit_line_fault U p.net (flies start p.quiet) l ≡ None → (c : Core) → IsLeftBy start p c → core_fault c e ≡ None
 allowed U start p (LinkLine a b w) e i h c s = ap (core_fault c) i ∙ ap (λ (n : Network). link_fault n a b w) s.net ∙ no_fault _ _ h
 allowed U start p (UnlinkLine a b) e i h c s = ap (core_fault c) i ∙ ap (λ (n : Network). unlink_fault n a b) s.net ∙ no_fault _ _ h
 allowed U start p (SetLine d j v) e i h c s = ap (core_fault c) i ∙ ap (λ (n : Network). set_fault n d j v) s.net ∙ no_fault _ _ h
@@ -115,7 +115,7 @@ allowed U start p (PokeLine d v ks) (PokeEdit e x) i h c s =
     let there : lives c.net e ≡ true = ap (lives c.net) i.0 ∙ ap (λ (n : Network). lives n d) s.net ∙ poke_there (lives p.net d) (fits_kept U v ks) _ _ h in
     ap (λ b. first_fault ((not b, net.NoDevice) ∷ [])) there
 
-net_is : (U : Unfolding) (n : Network) (l : EditLine) (e : EditValue) → IsEdit U l e → net_after n e ≡ after_edit n l
+net_is : (U : Unfolding) (n : Network) (l : EditLine) (e : EditValue) → IsEdit U l e → net_after n e ≡ edited_network n l
 net_is U n (LinkLine a b w) e i = ap (net_after n) i
 net_is U n (UnlinkLine a b) e i = ap (net_after n) i
 net_is U n (SetLine d j v) e i = ap (net_after n) i
@@ -142,7 +142,7 @@ mixed U (PokeLine d v ks) (JoinEdit x) m i = absurd i
 mixed U (PokeLine d v ks) (LeaveEdit e) m i = absurd i
 mixed U (PokeLine d v ks) (PokeEdit e x) m i = tt
 
-any_flights : (U : Unfolding) (n : Network) (f g : ℕ → Bool) (l : EditLine) → if_mixed l ≡ Some l → edit_fault U n f l ≡ edit_fault U n g l
+any_flights : (U : Unfolding) (n : Network) (f g : ℕ → Bool) (l : EditLine) → if_mixed l ≡ Some l → edit_line_fault U n f l ≡ edit_line_fault U n g l
 any_flights U n f g (LinkLine a b w) m = refl
 any_flights U n f g (UnlinkLine a b) m = refl
 any_flights U n f g (SetLine d i v) m = refl
@@ -176,7 +176,7 @@ second_none (Some x) b h = absurd cc
 
 module _ (U : Unfolding) (start : Core) (p : Progress) where
   -- the command of a line without a fault may come
-  may_come : (l : ScriptLine) (c : CommandValue) → MayBe l → line_fault U start p l ≡ None → IsCommand U l c → CommandFits U c → MayCome U start p c
+  may_come : (l : ScriptLine) (c : CommandValue) → MayBe l → script_line_fault U start p l ≡ None → IsCommand U l c → CommandFits U c → MayCome U start p c
   may_come (RunLine r) c m h i f = subst (MayCome U start p) (sym i) (record { some = m; within = within p r h })
   may_come (ScrambleLine n) c m h i f = subst (MayCome U start p) (sym i) (scrambled p h)
   may_come ShowLine c m h i f = subst (MayCome U start p) (sym i) tt
@@ -184,14 +184,14 @@ module _ (U : Unfolding) (start : Core) (p : Progress) where
   may_come (DoLine l) (ScrambleCommand n) m h i f = absurd i
   may_come (DoLine l) ShowCommand m h i f = absurd i
   may_come (DoLine l) (MixCommand r e) m h i f = absurd i
-  may_come (DoLine l) (EditCommand e) m h i f = record { fits = f; allowed = allowed U start p l e i (no_fault OfLine (edit_fault U p.net (flies start p.quiet) l) h) }
+  may_come (DoLine l) (EditCommand e) m h i f = record { fits = f; allowed = allowed U start p l e i (no_fault OfLine (edit_line_fault U p.net (flies start p.quiet) l) h) }
   may_come (MixLine q l) (RunCommand r) m h i f = absurd i
   may_come (MixLine q l) (EditCommand e) m h i f = absurd i
   may_come (MixLine q l) (ScrambleCommand n) m h i f = absurd i
   may_come (MixLine q l) ShowCommand m h i f = absurd i
   may_come (MixLine q l) (MixCommand r e) m h i f =
-      let none : edit_fault U p.net (λ d. false) l ≡ None = no_fault OfLine (edit_fault U p.net (λ d. false) l) (second_none (firings_fault p (q + 1)) (option_map OfLine (edit_fault U p.net (λ d. false) l)) h) in
-      let few : firings_after p (q + 1) ≤ MOST_FIRINGS = within p (q + 1) (first_none (firings_fault p (q + 1)) (option_map OfLine (edit_fault U p.net (λ d. false) l)) h) in
+      let none : edit_line_fault U p.net (λ d. false) l ≡ None = no_fault OfLine (edit_line_fault U p.net (λ d. false) l) (second_none (firings_fault p (q + 1)) (option_map OfLine (edit_line_fault U p.net (λ d. false) l)) h) in
+      let few : firings_after p (q + 1) ≤ MOST_FIRINGS = within p (q + 1) (first_none (firings_fault p (q + 1)) (option_map OfLine (edit_line_fault U p.net (λ d. false) l)) h) in
       record {
         some = subst (λ n. 1 ≤ n) (sym i.0) m.0;
         within = subst (λ n. firings_after p (n + 1) ≤ MOST_FIRINGS) (sym i.0) few;
@@ -200,7 +200,7 @@ module _ (U : Unfolding) (start : Core) (p : Progress) where
       }
 
 -- what a command leaves is what its line leaves
-same_after : (U : Unfolding) (p : Progress) (l : ScriptLine) (c : CommandValue) → IsCommand U l c → after_line p l ≡ after_command p c
+same_after : (U : Unfolding) (p : Progress) (l : ScriptLine) (c : CommandValue) → IsCommand U l c → progress_after p l ≡ after_command p c
 same_after U p (RunLine r) c i = ap (after_command p) (sym i)
 same_after U p (ScrambleLine n) c i = ap (after_command p) (sym i)
 same_after U p ShowLine c i = ap (after_command p) (sym i)
@@ -214,19 +214,19 @@ same_after U p (MixLine q l) (EditCommand e) i = absurd i
 same_after U p (MixLine q l) (ScrambleCommand n) i = absurd i
 same_after U p (MixLine q l) ShowCommand i = absurd i
 same_after U p (MixLine q l) (MixCommand r e) i =
-    ap (λ n. after_line p (MixLine n l)) (sym i.0) ∙ ap (with_net (after_command p (RunCommand (r + 1)))) (sym (net_is U p.net l e i.1))
+    ap (λ n. progress_after p (MixLine n l)) (sym i.0) ∙ ap (with_net (after_command p (RunCommand (r + 1)))) (sym (net_is U p.net l e i.1))
 
 -- ---- lines
 
 module _ (U : Unfolding) (start : Core) where
   -- a line, where those after it are judged so
-  one_line : (p : Progress) (k : ℕ) (o : Option ScriptLine) (rest : ScriptLine → Lines LineFault ScriptLine) → IfSome o MayBe
-      → ((l : ScriptLine) (cs : List (ℕ × CommandValue)) → SaidBy (IsCommand U) cs (rest l) → AllCommandsFit U cs → AreJudged U start (after_line p l) cs)
-      → (cs : List (ℕ × CommandValue)) → SaidBy (IsCommand U) cs (and_lines k (line_judged U start p o) rest) → AllCommandsFit U cs → AreJudged U start p cs
+  one_line : (p : Progress) (k : ℕ) (o : Option ScriptLine) (rest : ScriptLine → Lines ScriptLineFault ScriptLine) → IfSome o MayBe
+      → ((l : ScriptLine) (cs : List (ℕ × CommandValue)) → SaidBy (IsCommand U) cs (rest l) → AllCommandsFit U cs → AreJudged U start (progress_after p l) cs)
+      → (cs : List (ℕ × CommandValue)) → SaidBy (IsCommand U) cs (and_lines k (script_line_judged U start p o) rest) → AllCommandsFit U cs → AreJudged U start p cs
   one_line p k None rest m ih cs s f = absurd s
-  one_line p k (Some l) rest m ih cs s f = by_fault (line_fault U start p l) refl s
+  one_line p k (Some l) rest m ih cs s f = by_fault (script_line_fault U start p l) refl s
     where
-      by_lines : line_fault U start p l ≡ None → (r : Lines LineFault ScriptLine) → rest l ≡ r → (ds : List (ℕ × CommandValue)) → SaidBy (IsCommand U) ds (onto (k, l) r) → AllCommandsFit U ds → AreJudged U start p ds
+      by_lines : script_line_fault U start p l ≡ None → (r : Lines ScriptLineFault ScriptLine) → rest l ≡ r → (ds : List (ℕ × CommandValue)) → SaidBy (IsCommand U) ds (onto (k, l) r) → AllCommandsFit U ds → AreJudged U start p ds
       by_lines none (StopsAt n x) e ds t g = absurd t
       by_lines none (AllLines ls) e [] t g = absurd t
       by_lines none (AllLines ls) e (d ∷ ds) t g = (
@@ -234,22 +234,22 @@ module _ (U : Unfolding) (start : Core) where
         subst (λ q. AreJudged U start q ds) (same_after U p l d.1 t.1) (ih l ds (subst (SaidBy (IsCommand U) ds) (sym e) t.2) g.1),
       )
 
-      by_fault : (r : Option LineFault) → line_fault U start p l ≡ r → SaidBy (IsCommand U) cs (and_lines k (unless r l) rest) → AreJudged U start p cs
+      by_fault : (r : Option ScriptLineFault) → script_line_fault U start p l ≡ r → SaidBy (IsCommand U) cs (and_lines k (unless_fault r l) rest) → AreJudged U start p cs
       by_fault (Some x) e t = absurd t
       by_fault None e t = by_lines e (rest l) refl cs t f
 
-  judged_lines : (p : Progress) (k : ℕ) (lines : List (List ℕ)) (cs : List (ℕ × CommandValue)) → SaidBy (IsCommand U) cs (lines_from (text_judged U start) after_line p k lines) → AllCommandsFit U cs → AreJudged U start p cs
+  judged_lines : (p : Progress) (k : ℕ) (lines : List (List ℕ)) (cs : List (ℕ × CommandValue)) → SaidBy (IsCommand U) cs (lines_from (script_text_judged U start) progress_after p k lines) → AllCommandsFit U cs → AreJudged U start p cs
   judged_lines p k [] [] s f = tt
   judged_lines p k [] (c ∷ cs) s f = absurd s
-  judged_lines p k (line ∷ lines) cs s f = by_test (is_empty line) (judged_lines p (k + 1) lines cs) (λ l. judged_lines (after_line p l) (k + 1) lines) s
+  judged_lines p k (line ∷ lines) cs s f = by_test (is_empty line) (judged_lines p (k + 1) lines cs) (λ l. judged_lines (progress_after p l) (k + 1) lines) s
     where
-      by_test : (b : Bool) → (SaidBy (IsCommand U) cs (lines_from (text_judged U start) after_line p (k + 1) lines) → AllCommandsFit U cs → AreJudged U start p cs)
-          → ((l : ScriptLine) (ds : List (ℕ × CommandValue)) → SaidBy (IsCommand U) ds (lines_from (text_judged U start) after_line (after_line p l) (k + 1) lines) → AllCommandsFit U ds → AreJudged U start (after_line p l) ds)
-          → SaidBy (IsCommand U) cs (if b then lines_from (text_judged U start) after_line p (k + 1) lines else and_lines k (text_judged U start p (line_text line)) (λ l. lines_from (text_judged U start) after_line (after_line p l) (k + 1) lines))
+      by_test : (b : Bool) → (SaidBy (IsCommand U) cs (lines_from (script_text_judged U start) progress_after p (k + 1) lines) → AllCommandsFit U cs → AreJudged U start p cs)
+          → ((l : ScriptLine) (ds : List (ℕ × CommandValue)) → SaidBy (IsCommand U) ds (lines_from (script_text_judged U start) progress_after (progress_after p l) (k + 1) lines) → AllCommandsFit U ds → AreJudged U start (progress_after p l) ds)
+          → SaidBy (IsCommand U) cs (if b then lines_from (script_text_judged U start) progress_after p (k + 1) lines else and_lines k (script_text_judged U start p (line_text line)) (λ l. lines_from (script_text_judged U start) progress_after (progress_after p l) (k + 1) lines))
           → AreJudged U start p cs
       by_test true ih ihs t = ih t f
       by_test false ih ihs t =
-          one_line p k (script_line p.net.declared.inputs (words_of (line_text line))) (λ l. lines_from (text_judged U start) after_line (after_line p l) (k + 1) lines) (script_may p.net.declared.inputs (words_of (line_text line))) ihs cs t f
+          one_line p k (script_line p.net.declared.inputs (words_of (line_text line))) (λ l. lines_from (script_text_judged U start) progress_after (progress_after p l) (k + 1) lines) (script_may p.net.declared.inputs (words_of (line_text line))) ihs cs t f
 
 pub scripts_judged : ScriptsAreJudged
 unfolding lines_in

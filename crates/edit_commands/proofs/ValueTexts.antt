@@ -9,7 +9,7 @@ use Rattle.std.proofs.lemmas.Bool.Decides.{nat_tests}
 use Rattle.std.proofs.lemmas.Slice.Eq.{bytes_eq-Decides}
 use Rattle.fc_values.specs.Values.{LocalValue, IntValue, BoolValue, PairValue}
 use Rattle.fc_values.specs.Numbers.{number_of}
-use Rattle.edit_commands.specs.Values.{atom_of, IsValueText, AtomText, PairText, Since, Bytes, Closed, Reading, reading, part_since, opens, parts, closes, goes_on, step, steps, when_closed, whole_part, value_with, value_of, ValuesAreRead}
+use Rattle.edit_commands.specs.Values.{atom_of, IsValueText, AtomText, PairText, Since, Bytes, Closed, Reading, reading, part_since, opens, parts, closes, goes_on, read_byte, read_bytes, when_closed, whole_part, value_with, written_value, ValuesAreRead}
 
 abbrev same : LocalValue → LocalValue
 same v = v
@@ -18,7 +18,7 @@ abbrev Stack : Type 0
 Stack = List (Option LocalValue)
 
 abbrev run : Reading LocalValue → List ℕ → Option (Reading LocalValue)
-run r bs = steps same PairValue r bs
+run r bs = read_bytes same PairValue r bs
 
 -- ---- a byte of an atom is no mark
 
@@ -69,7 +69,7 @@ atom_plain bs v h = by_tests (bytes_eq bs (codes "true")) (bytes_eq bs (codes "f
 
 -- ---- a text of a value is read
 
-plain_step : (os : Stack) (ds : List ℕ) (b : ℕ) → IsPlain b → step same PairValue (reading os (Bytes ds)) b ≡ Some (reading os (Bytes (ds ++ b ∷ [])))
+plain_step : (os : Stack) (ds : List ℕ) (b : ℕ) → IsPlain b → read_byte same PairValue (reading os (Bytes ds)) b ≡ Some (reading os (Bytes (ds ++ b ∷ [])))
 plain_step os ds b h = rw (h.opens, h.parts, h.closes) refl
 
 plain_run : (os : Stack) (ds bs rest : List ℕ) → AllPlain bs → run (reading os (Bytes ds)) (bs ++ rest) ≡ run (reading os (Bytes (ds ++ bs))) rest
@@ -102,7 +102,7 @@ passes text v (PairText s t x y h k) os rest =
           ∙ ap (λ o. option_and_then (λ r. run r rest) (closes PairValue (Some x ∷ os) o)) q.part;
     }
 
-read_of : (text : List ℕ) (v : LocalValue) → IsValueText text v → value_of text ≡ Some v
+read_of : (text : List ℕ) (v : LocalValue) → IsValueText text v → written_value text ≡ Some v
 unfolding value_with
 read_of text v h =
     let p = passes text v h [] [] in
@@ -199,7 +199,7 @@ gone_on os (Closed v) b r text front back c h k e = absurd cc
 is_byte : (b m : ℕ) → (b == m) ≡ true → b ≡ m
 is_byte b m h = grind (arith, nat_tests)
 
-stepped : (q r : Reading LocalValue) (text : List ℕ) (b : ℕ) → IsRead q text → step same PairValue q b ≡ Some r → IsRead r (text ++ b ∷ [])
+stepped : (q r : Reading LocalValue) (text : List ℕ) (b : ℕ) → IsRead q text → read_byte same PairValue q b ≡ Some r → IsRead r (text ++ b ∷ [])
 stepped q r text b h e = by_tests (b == 40) (b == 44) (b == 41) refl refl refl e
   where
     at : (m : ℕ) → (b == m) ≡ true → IsRead r (text ++ m ∷ []) → IsRead r (text ++ b ∷ [])
@@ -220,9 +220,9 @@ ran q r text [] h e =
     let f : q ≡ r = cc in
     subst (λ t. IsRead r t) (sym (append-nil text)) (subst (λ x. IsRead x text) f h)
 ran q r text (b ∷ bs) h e =
-    by_case (step same PairValue q b) (λ s f g. subst (IsRead r) (append_assoc text (b ∷ []) bs) (ran s r (text ++ b ∷ []) bs (stepped q s text b h f) g)) refl e
+    by_case (read_byte same PairValue q b) (λ s f g. subst (IsRead r) (append_assoc text (b ∷ []) bs) (ran s r (text ++ b ∷ []) bs (stepped q s text b h f) g)) refl e
   where
-    by_case : (o : Option (Reading LocalValue)) → ((s : Reading LocalValue) → step same PairValue q b ≡ Some s → run s bs ≡ Some r → IsRead r (text ++ b ∷ bs)) → step same PairValue q b ≡ o
+    by_case : (o : Option (Reading LocalValue)) → ((s : Reading LocalValue) → read_byte same PairValue q b ≡ Some s → run s bs ≡ Some r → IsRead r (text ++ b ∷ bs)) → read_byte same PairValue q b ≡ o
         → option_and_then (λ s. run s bs) o ≡ Some r → IsRead r (text ++ b ∷ bs)
     by_case None k f g = absurd cc
     by_case (Some s) k f g = k s f g
@@ -231,7 +231,7 @@ ended : (r : Reading LocalValue) (os : Stack) (text front : List ℕ) (back : Li
 ended r [] text front back v c h k e = let f : text ≡ back = c ∙ ap (λ t. t ++ back) h in subst (λ t. IsValueText t v) (sym f) (part_text r.since back v k e)
 ended r (o ∷ os) text front back v c h k e = absurd cc
 
-text_of : (text : List ℕ) (v : LocalValue) → value_of text ≡ Some v → IsValueText text v
+text_of : (text : List ℕ) (v : LocalValue) → written_value text ≡ Some v → IsValueText text v
 unfolding value_with
 text_of text v e = by_case (run (reading [] (Bytes [])) text) refl e
   where

@@ -8,7 +8,7 @@ use Rattle.fc_values.specs.declared.types.InputTy.TheVariants as input
 use Rattle.fc_values.specs.Types.{Input}
 use Rattle.fc_values.specs.Values.{LocalValue, IntValue, BoolValue, PairValue}
 use Rattle.fc_values.specs.BuiltinTypes.{inner}
-use Rattle.fc_nodes.specs.Terms.{type_of}
+use Rattle.fc_nodes.specs.Terms.{term_type}
 use Rattle.fc_nodes.specs.Program.{Program, Unfolding, unfolding_of, IsProgram}
 use Rattle.value_trees.specs.KeptReads.{has_type, misfit_of}
 use Rattle.topology.specs.declared.types.NetFault.{NetFault}
@@ -18,14 +18,14 @@ use Rattle.topology.specs.Inputs.{input_fault, inputs_fault, or_fault}
 use Rattle.topology.specs.Changes.{first_fault, nth_fault, set_fault, join_fault}
 use Rattle.edit_commands.specs.declared.types.Fault.TheVariants as fault
 use Rattle.edit_commands.specs.EditLines.{EditLine, LinkLine, UnlinkLine, SetLine, PokeLine, JoinLine, LeaveLine, device_with}
-use Rattle.edit_commands.specs.Judging.{fits_kept, poke_fault, edit_fault}
+use Rattle.edit_commands.specs.Judging.{fits_kept, poke_fault, edit_line_fault}
 use Rattle.edit_commands.specs.Narrow.{leaves_in, stand_in, narrow, narrow_device, narrow_line}
 use Rattle.fc_nodes.proofs.NarrowTypes.{IsNarrow, Keeps, term_narrow}
 use Rattle.edit_commands.proofs.Wide.{narrow_types, narrow_same, misfit_narrow, fitting_narrow}
 
 pub record IsNarrowProgram (U : Unfolding) : Type 0 where
   pub few : U.declared.ceiling ≤ 1000000
-  pub main : IsNarrow (inner (type_of U.main))
+  pub main : IsNarrow (inner (term_type U.main))
   pub keeps : Keeps IsNarrow U.main
 
 pub program_narrow : (p : Program) → IsProgram p → IsNarrowProgram (unfolding_of p)
@@ -116,14 +116,14 @@ join_same n x h = by_tests (lives n x.id) (nat_le 1024 (length n.devices)) (nat_
 module _ (U : Unfolding) (h : IsNarrowProgram U) where
   kept_narrow : (v : LocalValue) (ks : List LocalValue) → fits_kept U (narrow v) (map narrow ks) ≡ fits_kept U v ks
   kept_narrow v ks =
-      ap (λ b. b && is_none (misfit_of U (map narrow ks))) (narrow_types U.declared.ceiling h.few (inner (type_of U.main)) v h.main)
-      ∙ ap (λ o. has_type U.declared.ceiling (inner (type_of U.main)) v && is_none o) (misfit_narrow U ks h.few h.keeps)
+      ap (λ b. b && is_none (misfit_of U (map narrow ks))) (narrow_types U.declared.ceiling h.few (inner (term_type U.main)) v h.main)
+      ∙ ap (λ o. has_type U.declared.ceiling (inner (term_type U.main)) v && is_none o) (misfit_narrow U ks h.few h.keeps)
 
   kept_same : (v : LocalValue) (ks : List LocalValue) → fits_kept U v ks ≡ true → (narrow v ≡ v) × (map narrow ks ≡ ks)
-  kept_same v ks e = by_tests (has_type U.declared.ceiling (inner (type_of U.main)) v) (misfit_of U ks) refl refl e
+  kept_same v ks e = by_tests (has_type U.declared.ceiling (inner (term_type U.main)) v) (misfit_of U ks) refl refl e
     where
-      by_tests : (a : Bool) (o : Option ℕ) → has_type U.declared.ceiling (inner (type_of U.main)) v ≡ a → misfit_of U ks ≡ o → (a && is_none o) ≡ true → (narrow v ≡ v) × (map narrow ks ≡ ks)
-      by_tests true None f g k = (narrow_same U.declared.ceiling h.few (inner (type_of U.main)) v h.main f, fitting_narrow U ks h.few h.keeps g)
+      by_tests : (a : Bool) (o : Option ℕ) → has_type U.declared.ceiling (inner (term_type U.main)) v ≡ a → misfit_of U ks ≡ o → (a && is_none o) ≡ true → (narrow v ≡ v) × (map narrow ks ≡ ks)
+      by_tests true None f g k = (narrow_same U.declared.ceiling h.few (inner (term_type U.main)) v h.main f, fitting_narrow U ks h.few h.keeps g)
       by_tests true (Some p) f g k = absurd cc
       by_tests false o f g k = absurd cc
 
@@ -140,7 +140,7 @@ module _ (U : Unfolding) (h : IsNarrowProgram U) where
 
   -- ---- edits
 
-  pub fault_narrow : (n : Network) (flies : ℕ → Bool) (l : EditLine) → edit_fault U n flies (narrow_line l) ≡ edit_fault U n flies l
+  pub fault_narrow : (n : Network) (flies : ℕ → Bool) (l : EditLine) → edit_line_fault U n flies (narrow_line l) ≡ edit_line_fault U n flies l
   fault_narrow n flies (LinkLine a b w) = refl
   fault_narrow n flies (UnlinkLine a b) = refl
   fault_narrow n flies (SetLine d i v) = ap (option_map fault.Net) (set_narrow n d i v)
@@ -152,7 +152,7 @@ module _ (U : Unfolding) (h : IsNarrowProgram U) where
   no_fault None e = refl
   no_fault (Some f) e = absurd cc
 
-  pub allowed_same : (n : Network) (flies : ℕ → Bool) (l : EditLine) → edit_fault U n flies l ≡ None → narrow_line l ≡ l
+  pub allowed_same : (n : Network) (flies : ℕ → Bool) (l : EditLine) → edit_line_fault U n flies l ≡ None → narrow_line l ≡ l
   allowed_same n flies (LinkLine a b w) e = refl
   allowed_same n flies (UnlinkLine a b) e = refl
   allowed_same n flies (SetLine d i v) e = ap (SetLine d i) (set_same n d i v (no_fault (set_fault n d i v) e))

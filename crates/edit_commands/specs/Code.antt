@@ -2,14 +2,14 @@
 use Rattle.std.specs.Prelude.{ℕ, Bool, false, ◌≡◌, ◌≤◌, List, map, Option, None, Some, is_some, option_map, IfSome}
 use Rattle.std.specs.Borrow.{Bor}
 use Rattle.fc_values.specs.Values.{local_of}
-use Rattle.topology.specs.Networks.{device_of}
+use Rattle.topology.specs.Networks.{net_device_of}
 use Rattle.topology.specs.declared.types.TheConstants.{GREATEST_NUMBER}
 use Rattle.firing_core.specs.CoreViews.{CoreValue, core_of}
 use Rattle.edit_commands.specs.declared.edits.EditLine.{EditLine as Line}
 use Rattle.edit_commands.specs.declared.edits.EditLine.TheVariants as line
 use Rattle.edit_commands.specs.declared.types.Fault.{Fault}
-use Rattle.edit_commands.specs.declared.types.LineFault.{LineFault}
-use Rattle.edit_commands.specs.declared.types.LineFault.TheVariants as line_fault
+use Rattle.edit_commands.specs.declared.types.LineFailure.{LineFailure}
+use Rattle.edit_commands.specs.declared.types.LineFailure.TheVariants as line_fault
 use Rattle.edit_commands.specs.declared.types.ScriptFault.{ScriptFault}
 use Rattle.edit_commands.specs.declared.types.ScriptFault.TheVariants as script
 use Rattle.edit_commands.specs.EditLines.{EditLine, LinkLine, UnlinkLine, SetLine, PokeLine, JoinLine, LeaveLine}
@@ -25,7 +25,7 @@ line_of (line.Link a b w) = LinkLine a b w
 line_of (line.Unlink a b) = UnlinkLine a b
 line_of (line.Set d i v) = SetLine d i (local_of v)
 line_of (line.Poke d v ks) = PokeLine d (local_of v) (map local_of ks.items)
-line_of (line.Join x) = JoinLine (device_of x)
+line_of (line.Join x) = JoinLine (net_device_of x)
 line_of (line.Leave d) = LeaveLine d
 
 -- what was read is a line, in which other values stand for those that are too wide for every type
@@ -50,11 +50,11 @@ flies_in None d = false
 flies_in (Some c) d = is_some ((core_of c.now).flying d)
 
 -- a fault in code is that of a line. Want of memory is always allowed
-abbrev pub IsFaultOf : Option Fault → LineFault → Type 0
+abbrev pub IsFaultOf : Option Fault → LineFailure → Type 0
 IsFaultOf fault (line_fault.Bad f) = fault ≡ Some f
 IsFaultOf fault line_fault.Memory = Unit {0}
 
-abbrev pub HasFault : {A : Type 0} → Judgement Fault A → LineFault → Type 0
+abbrev pub HasFault : {A : Type 0} → Judgement Fault A → LineFailure → Type 0
 HasFault judged (line_fault.Bad f) = judged ≡ Refused f
 HasFault judged line_fault.Memory = Unit {0}
 

@@ -3,7 +3,7 @@ use Rattle.std.specs.Prelude.{ℕ, Bool, ◌≡◌, not, ◌&&◌, is_none, nat_
 use Rattle.std.specs.Prelude.{List, [], ◌∷◌, length, Option, Some, None, option_map}
 use Rattle.fc_values.specs.Values.{LocalValue}
 use Rattle.fc_values.specs.BuiltinTypes.{inner}
-use Rattle.fc_nodes.specs.Terms.{type_of}
+use Rattle.fc_nodes.specs.Terms.{term_type}
 use Rattle.fc_nodes.specs.Program.{Unfolding}
 use Rattle.value_trees.specs.KeptExports.{Keeps}
 use Rattle.value_trees.specs.KeptReads.{has_type, misfit_of}
@@ -15,12 +15,12 @@ use Rattle.firing_core.specs.Entries.{EditValue, LinkEdit, UnlinkEdit, SetEdit, 
 use Rattle.firing_core.specs.Cores.{EditFits}
 use Rattle.edit_commands.specs.declared.types.Fault.{Fault}
 use Rattle.edit_commands.specs.declared.types.Fault.TheVariants as fault
-use Rattle.edit_commands.specs.LineByLine.{Judgement, Refused, unless, Does}
+use Rattle.edit_commands.specs.LineByLine.{Judgement, Refused, unless_fault, Does}
 use Rattle.edit_commands.specs.EditLines.{EditLine, LinkLine, UnlinkLine, SetLine, PokeLine, JoinLine, LeaveLine}
 
 -- a value and a list that are those of an export of a program
 abbrev pub fits_kept : Unfolding → LocalValue → List LocalValue → Bool
-fits_kept U v ks = has_type U.declared.ceiling (inner (type_of U.main)) v && is_none (misfit_of U ks)
+fits_kept U v ks = has_type U.declared.ceiling (inner (term_type U.main)) v && is_none (misfit_of U ks)
 
 -- why a device can't be poked, and why one can't leave where some devices are known to be in flight
 abbrev pub poke_fault : Unfolding → Network → ℕ → LocalValue → List LocalValue → Option Fault
@@ -39,22 +39,22 @@ abbrev pub net_fault : Option NetFault → Option Fault
 net_fault f = option_map fault.Net f
 
 -- the first fault of an edit
-abbrev pub edit_fault : Unfolding → Network → (ℕ → Bool) → EditLine → Option Fault
-edit_fault U n flies (LinkLine a b w) = net_fault (link_fault n a b w)
-edit_fault U n flies (UnlinkLine a b) = net_fault (unlink_fault n a b)
-edit_fault U n flies (SetLine d i v) = net_fault (set_fault n d i v)
-edit_fault U n flies (PokeLine d v ks) = poke_fault U n d v ks
-edit_fault U n flies (JoinLine x) = net_fault (join_fault n x)
-edit_fault U n flies (LeaveLine d) = net_fault (leave_fault n flies d)
+abbrev pub edit_line_fault : Unfolding → Network → (ℕ → Bool) → EditLine → Option Fault
+edit_line_fault U n flies (LinkLine a b w) = net_fault (link_fault n a b w)
+edit_line_fault U n flies (UnlinkLine a b) = net_fault (unlink_fault n a b)
+edit_line_fault U n flies (SetLine d i v) = net_fault (set_fault n d i v)
+edit_line_fault U n flies (PokeLine d v ks) = poke_fault U n d v ks
+edit_line_fault U n flies (JoinLine x) = net_fault (join_fault n x)
+edit_line_fault U n flies (LeaveLine d) = net_fault (leave_fault n flies d)
 
 -- the network after an edit
-abbrev pub after_edit : Network → EditLine → Network
-after_edit n (LinkLine a b w) = linked n a b w
-after_edit n (UnlinkLine a b) = unlinked n a b
-after_edit n (SetLine d i v) = with_input n d i v
-after_edit n (PokeLine d v ks) = n
-after_edit n (JoinLine x) = joined n x
-after_edit n (LeaveLine d) = left n d
+abbrev pub edited_network : Network → EditLine → Network
+edited_network n (LinkLine a b w) = linked n a b w
+edited_network n (UnlinkLine a b) = unlinked n a b
+edited_network n (SetLine d i v) = with_input n d i v
+edited_network n (PokeLine d v ks) = n
+edited_network n (JoinLine x) = joined n x
+edited_network n (LeaveLine d) = left n d
 
 -- a poke of a device with an export that has a value and kept values
 abbrev pub PokesWith : Unfolding → ℕ → LocalValue → List LocalValue → EditValue → Type 0
@@ -77,8 +77,8 @@ IsEdit U (LeaveLine d) e = e ≡ LeaveEdit d
 -- the edit that words say, judged
 abbrev pub words_judged : Unfolding → Network → (ℕ → Bool) → Option EditLine → Judgement Fault EditLine
 words_judged U n flies None = Refused fault.Form
-words_judged U n flies (Some l) = unless (edit_fault U n flies l) l
+words_judged U n flies (Some l) = unless_fault (edit_line_fault U n flies l) l
 
 -- an edit that a line says, with the network after it
 abbrev pub DoesEdit : Unfolding → Network → Network → EditValue → EditLine → Type 0
-DoesEdit U n after e l = Does after_edit (IsEdit U) (EditFits U) n after e l
+DoesEdit U n after e l = Does edited_network (IsEdit U) (EditFits U) n after e l

@@ -3,9 +3,9 @@ use Rattle.std.specs.Prelude.{ℕ, ◌≡◌, ◌+◌, if◌then◌else◌, List
 pub use Rattle.fc_values.specs.Judgements.{Judgement, Accepted, Refused}
 use Rattle.fc_io.specs.Lines.{line_text, is_empty}
 
-abbrev pub unless : {R A : Type 0} → Option R → A → Judgement R A
-unless None x = Accepted x
-unless (Some r) x = Refused r
+abbrev pub unless_fault : {R A : Type 0} → Option R → A → Judgement R A
+unless_fault None x = Accepted x
+unless_fault (Some r) x = Refused r
 
 abbrev pub WhereAccepted : {R A : Type 0} → (A → Type 0) → Judgement R A → Type 0
 WhereAccepted P (Accepted x) = P x

@@ -7,10 +7,10 @@ use Rattle.firing_core.specs.declared.entries.Edit.{Edit}
 use Rattle.firing_core.specs.declared.entries.Entry.{Entry}
 use Rattle.firing_core.specs.Entries.{edit_of, entry_of}
 use Rattle.edit_commands.specs.declared.types.Fault.{Fault}
-use Rattle.edit_commands.specs.declared.types.LineFault.{LineFault}
+use Rattle.edit_commands.specs.declared.types.LineFailure.{LineFailure}
 use Rattle.edit_commands.specs.LineByLine.{Judgement, WhereAccepted}
 use Rattle.edit_commands.specs.Judging.{DoesEdit}
-use Rattle.edit_commands.specs.Logs.{LogLine, DoesEntry, edit_judged, edit_text_judged, line_judged}
+use Rattle.edit_commands.specs.Logs.{LogLine, DoesEntry, edit_judged, edit_text_judged, log_line_judged}
 use Rattle.edit_commands.specs.Code.{texts, HasFault}
 
 -- the edit that words say, with the network after it, or its fault
@@ -18,7 +18,7 @@ abbrev pub IsEditOf : Program → Network → Network → List (Bor (List ℕ)) 
 IsEditOf p n after words e =
     WhereAccepted (DoesEdit (unfolding_of p) n after (edit_of e)) (edit_judged (unfolding_of p) n (texts words))
 
-abbrev pub IsEditFault : Program → Network → List (Bor (List ℕ)) → LineFault → Type 0
+abbrev pub IsEditFault : Program → Network → List (Bor (List ℕ)) → LineFailure → Type 0
 IsEditFault p n words f = HasFault (edit_judged (unfolding_of p) n (texts words)) f
 
 -- the entry of a judged line, with the network after it
@@ -27,7 +27,7 @@ IsEntryOf p n after judged e = WhereAccepted (DoesEntry (unfolding_of p) n after
 
 -- a line, and one that is an edit, judged
 abbrev pub line_in : Program → Network → List ℕ → Judgement Fault LogLine
-line_in p n text = line_judged (unfolding_of p) n text
+line_in p n text = log_line_judged (unfolding_of p) n text
 
 abbrev pub edit_text_in : Program → Network → List ℕ → Judgement Fault LogLine
 edit_text_in p n text = edit_text_judged (unfolding_of p) n text

@@ -14,8 +14,8 @@ use Rattle.fc_io.specs.Lines.{lines_of}
 use Rattle.edit_commands.specs.Lines.{words_of}
 use Rattle.fc_values.specs.Numbers.{number_of}
 use Rattle.edit_commands.specs.EditLines.{EditLine, edit_line}
-use Rattle.edit_commands.specs.LineByLine.{Judgement, Refused, unless, Lines, StopsAt, lines_from, Does, SaidBy}
-use Rattle.edit_commands.specs.Judging.{edit_fault, after_edit, IsEdit, words_judged}
+use Rattle.edit_commands.specs.LineByLine.{Judgement, Refused, unless_fault, Lines, StopsAt, lines_from, Does, SaidBy}
+use Rattle.edit_commands.specs.Judging.{edit_line_fault, edited_network, IsEdit, words_judged}
 
 -- a line of a log
 pub data LogLine : Type 0 where
@@ -41,36 +41,36 @@ log_line is (b ∷ bs) =
     if b == 73 then idle_line bs else edit_in is (b ∷ bs)
 
 -- The first fault of a line. Whether a device that leaves is in flight is found when the log is replayed.
-abbrev pub line_fault : Unfolding → Network → LogLine → Option Fault
-line_fault U n (BeginLine d) = None
-line_fault U n (EndLine d) = None
-line_fault U n IdleLine = None
-line_fault U n (OfEdit l) = edit_fault U n (λ d. false) l
+abbrev pub log_line_fault : Unfolding → Network → LogLine → Option Fault
+log_line_fault U n (BeginLine d) = None
+log_line_fault U n (EndLine d) = None
+log_line_fault U n IdleLine = None
+log_line_fault U n (OfEdit l) = edit_line_fault U n (λ d. false) l
 
-abbrev pub after_line : Network → LogLine → Network
-after_line n (BeginLine d) = n
-after_line n (EndLine d) = n
-after_line n IdleLine = n
-after_line n (OfEdit l) = after_edit n l
+abbrev pub network_after : Network → LogLine → Network
+network_after n (BeginLine d) = n
+network_after n (EndLine d) = n
+network_after n IdleLine = n
+network_after n (OfEdit l) = edited_network n l
 
 -- the text of a line, judged
-abbrev pub text_judged : Unfolding → Network → Option LogLine → Judgement Fault LogLine
-text_judged U n None = Refused fault.Form
-text_judged U n (Some l) = unless (line_fault U n l) l
+abbrev pub log_text_judged : Unfolding → Network → Option LogLine → Judgement Fault LogLine
+log_text_judged U n None = Refused fault.Form
+log_text_judged U n (Some l) = unless_fault (log_line_fault U n l) l
 
-abbrev pub line_judged : Unfolding → Network → List ℕ → Judgement Fault LogLine
-line_judged U n text = text_judged U n (log_line n.declared.inputs text)
+abbrev pub log_line_judged : Unfolding → Network → List ℕ → Judgement Fault LogLine
+log_line_judged U n text = log_text_judged U n (log_line n.declared.inputs text)
 
 -- the edit that words say, judged, and that of a text. Whether a device that leaves flies isn't judged
 abbrev pub edit_judged : Unfolding → Network → List (List ℕ) → Judgement Fault EditLine
 edit_judged U n words = words_judged U n (λ d. false) (edit_line n.declared.inputs words)
 
 abbrev pub edit_text_judged : Unfolding → Network → List ℕ → Judgement Fault LogLine
-edit_text_judged U n text = text_judged U n (edit_in n.declared.inputs text)
+edit_text_judged U n text = log_text_judged U n (edit_in n.declared.inputs text)
 
 -- the lines of a log
 unfoldable pub log_of : Unfolding → Network → List ℕ → Lines Fault LogLine
-log_of U n text = lines_from (line_judged U) after_line n 1 (lines_of text)
+log_of U n text = lines_from (log_line_judged U) network_after n 1 (lines_of text)
 
 -- the entry that a line says
 abbrev pub IsEntry : Unfolding → LogLine → EntryValue → Type 0
@@ -84,7 +84,7 @@ IsEntry U (OfEdit l) (EditEntry e) = IsEdit U l e
 
 -- an entry that a line says, with the network after it
 abbrev pub DoesEntry : Unfolding → Network → Network → EntryValue → LogLine → Type 0
-DoesEntry U n after e l = Does after_line (IsEntry U) (EntryFits U) n after e l
+DoesEntry U n after e l = Does network_after (IsEntry U) (EntryFits U) n after e l
 
 -- the entries of a log in which no line has a fault, with the numbers of their lines
 abbrev pub IsLog : Unfolding → Network → List ℕ → List (ℕ × EntryValue) → Type 0

@@ -4,11 +4,11 @@ use Rattle.std.specs.Prelude.{Option, option_map, MatchOption, slice_index, slic
 use Rattle.fc_values.specs.Values.{LocalValue, IntValue, BoolValue, PairValue, local_of}
 use Rattle.topology.specs.Networks.{NetDevice}
 use Rattle.edit_commands.specs.declared.values.TheConstants.{MOST_LEAVES}
-use Rattle.edit_commands.specs.declared.values.Part.{Part}
-use Rattle.edit_commands.specs.declared.values.Part.TheVariants as part
+use Rattle.edit_commands.specs.declared.values.ValuePart.{ValuePart}
+use Rattle.edit_commands.specs.declared.values.ValuePart.TheVariants as part
 use Rattle.edit_commands.specs.declared.values.Since.{Since as SinceCode}
 use Rattle.edit_commands.specs.declared.values.Since.TheVariants as since
-use Rattle.edit_commands.specs.Values.{Since, Bytes, Closed, Reading, reading, opens, parts, closes, goes_on, step}
+use Rattle.edit_commands.specs.Values.{Since, Bytes, Closed, Reading, reading, opens, parts, closes, goes_on, read_byte}
 use Rattle.edit_commands.specs.EditLines.{EditLine, LinkLine, UnlinkLine, SetLine, PokeLine, JoinLine, LeaveLine, device_with}
 
 -- the whole numbers and truth values in a value
@@ -57,19 +57,19 @@ shown_part WidePart = stand_in
 
 -- ---- the code's parts
 
-abbrev pub part_of : Part → PartValue
+abbrev pub part_of : ValuePart → PartValue
 part_of (part.Small v n) = SmallPart (local_of v) n
 part_of part.Wide = WidePart
 
 -- the open pairs, of which the code has the innermost last
-unfoldable pub open_of : List (Option Part) → List (Option PartValue)
+unfoldable pub open_of : List (Option ValuePart) → List (Option PartValue)
 open_of ps = reverse (map (option_map part_of) ps)
 
 -- the last bracket that is open is taken, if one is
-abbrev pub half_of : Option Part → Option PartValue
+abbrev pub half_of : Option ValuePart → Option PartValue
 half_of p = option_map part_of p
 
-abbrev pub TakesHalf : List (Option Part) → List (Option Part) → Option (Option Part) → Type 0
+abbrev pub TakesHalf : List (Option ValuePart) → List (Option ValuePart) → Option (Option ValuePart) → Type 0
 TakesHalf old new taken = MatchOption taken (open_of old ≡ []) (λ p. open_of old ≡ half_of p ∷ open_of new)
 
 -- what stands since the last mark, in a text up to an index
@@ -82,21 +82,23 @@ abbrev pub StandsBefore : ℕ → SinceCode → Type 0
 StandsBefore i (since.Bytes start) = start ≤ i
 StandsBefore i (since.Closed p) = Unit {0}
 
-abbrev pub reading_of : List ℕ → ℕ → List (Option Part) → SinceCode → Reading PartValue
+abbrev pub reading_of : List ℕ → ℕ → List (Option ValuePart) → SinceCode → Reading PartValue
 reading_of text i ps s = reading (open_of ps) (since_of text i s)
 
 -- what is read of a text before an index
-abbrev pub ReadsTo : ℕ → List (Option Part) → Option SinceCode → (List ℕ → Option (Reading PartValue)) → Type 0
+abbrev pub ReadsTo : ℕ → List (Option ValuePart) → Option SinceCode → (List ℕ → Option (Reading PartValue)) → Type 0
 ReadsTo i ps o next = (text : List ℕ) → i ≤ length text → option_map (reading_of text i ps) o ≡ next text
 
 -- what is read of a text before an index and a byte: a bracket that opens, a comma, a bracket that closes, or any other
-abbrev pub ReadsOpening : ℕ → SinceCode → List (Option Part) → List (Option Part) → Option SinceCode → Type 0
+abbrev pub ReadsOpening : ℕ → SinceCode → List (Option ValuePart) → List (Option ValuePart) → Option SinceCode → Type 0
 ReadsOpening i s old new o = ReadsTo (i + 1) new o (λ text. opens (open_of old) (since_of text i s))
 
-abbrev pub ReadsComma : ℕ → Option Part → List (Option Part) → List (Option Part) → Option SinceCode → Type 0
+abbrev pub ReadsComma : ℕ → Option ValuePart → List (Option ValuePart) → List (Option ValuePart) → Option SinceCode
+    → Type 0
 ReadsComma i p old new o = ReadsTo (i + 1) new o (λ text. parts (open_of old) (half_of p))
 
-abbrev pub ReadsClosing : Option Part → List (Option Part) → List (Option Part) → Option Part → Type 0
+abbrev pub ReadsClosing : Option ValuePart → List (Option ValuePart) → List (Option ValuePart) → Option ValuePart
+    → Type 0
 ReadsClosing p old new o =
     option_map (λ q. reading (open_of new) (Closed (part_of q))) o ≡ closes pair_part (open_of old) (half_of p)
 
@@ -105,6 +107,8 @@ ReadsOther i s o =
     (os : List (Option PartValue)) (text : List ℕ) → i < length text
     → option_map (λ t. reading os (since_of text (i + 1) t)) o ≡ goes_on os (since_of text i s) (slice_index text i)
 
-abbrev pub ReadsByte : List ℕ → ℕ → SinceCode → List (Option Part) → List (Option Part) → Option SinceCode → Type 0
+abbrev pub ReadsByte : List ℕ → ℕ → SinceCode → List (Option ValuePart) → List (Option ValuePart) → Option SinceCode
+    → Type 0
 ReadsByte text i s old new o =
-    option_map (reading_of text (i + 1) new) o ≡ step atom_part pair_part (reading_of text i old s) (slice_index text i)
+    option_map (reading_of text (i + 1) new) o
+    ≡ read_byte atom_part pair_part (reading_of text i old s) (slice_index text i)

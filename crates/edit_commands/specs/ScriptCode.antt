@@ -7,17 +7,17 @@ use Rattle.firing_core.specs.CoreViews.{core_of}
 use Rattle.edit_commands.specs.declared.scripts.Progress.{Progress as ProgressCode}
 use Rattle.edit_commands.specs.declared.scripts.LineContext.{LineContext}
 use Rattle.edit_commands.specs.declared.scripts.TheConstants.{MOST_SCRAMBLES, MOST_FIRINGS}
-use Rattle.edit_commands.specs.declared.types.Command.{Command}
+use Rattle.edit_commands.specs.declared.types.ScriptCommand.{ScriptCommand}
 use Rattle.edit_commands.specs.declared.types.Fault.{Fault}
 use Rattle.edit_commands.specs.declared.types.ScriptFault.{ScriptFault}
 use Rattle.edit_commands.specs.declared.types.ScriptFault.TheVariants as script
 use Rattle.edit_commands.specs.Lines.{words_of}
 use Rattle.edit_commands.specs.EditLines.{EditLine}
 use Rattle.edit_commands.specs.LineByLine.{Judgement, Refused, WhereAccepted}
-use Rattle.edit_commands.specs.Judging.{edit_fault}
+use Rattle.edit_commands.specs.Judging.{edit_line_fault}
 use Rattle.edit_commands.specs.Code.{texts}
-use Rattle.edit_commands.specs.Scripts.{Progress, ScriptLine, LineFault, OfLine, OfScrambles, OfFirings, DoesCommand}
-use Rattle.edit_commands.specs.Scripts.{command_of, flies, line_judged, do_line, mixed_line, mix_line, script_line}
+use Rattle.edit_commands.specs.Scripts.{Progress, ScriptLine, ScriptLineFault, OfLine, OfScrambles, OfFirings, DoesCommand}
+use Rattle.edit_commands.specs.Scripts.{command_of, flies, script_line_judged, do_line, mixed_line, mix_line, script_line}
 
 abbrev pub progress_of : ProgressCode → Progress
 progress_of p = record { net = p.net; quiet = p.quiet; scrambles = p.scrambles; firings = p.firings }
@@ -40,11 +40,12 @@ pub record IsReady (s : LineContext) (p : ProgressCode) : Type 0 where
   pub within : IsWithin (progress_of p)
 
 -- a line, judged
-abbrev pub seen : LineContext → ProgressCode → Option ScriptLine → Judgement LineFault ScriptLine
-seen s p line = line_judged (program_in s) (start_in s) (progress_of p) line
+abbrev pub seen : LineContext → ProgressCode → Option ScriptLine → Judgement ScriptLineFault ScriptLine
+seen s p line = script_line_judged (program_in s) (start_in s) (progress_of p) line
 
 -- the command of a line that has no fault, with what it leaves
-pub record Leaves (s : LineContext) (p after : ProgressCode) (line : Option ScriptLine) (c : Command) : Type 0 where
+pub record Leaves (s : LineContext) (p after : ProgressCode) (line : Option ScriptLine) (c : ScriptCommand)
+    : Type 0 where
   pub does :
       WhereAccepted (DoesCommand (program_in s) (progress_of p) (progress_of after) (command_of c)) (seen s p line)
   pub within : IsWithin (progress_of after)
@@ -67,10 +68,10 @@ text_in p text = script_line p.net.declared.inputs (words_of text)
 
 -- the fault of an edit
 abbrev pub fault_in : LineContext → ProgressCode → EditLine → Option Fault
-fault_in s p line = edit_fault (program_in s) p.net (flies (start_in s) p.quiet) line
+fault_in s p line = edit_line_fault (program_in s) p.net (flies (start_in s) p.quiet) line
 
 -- a fault in code is that of a judged line of a number. Want of memory is always allowed
-abbrev pub HasLineFaultAt : {A : Type 0} → ℕ → Judgement LineFault A → ScriptFault → Type 0
+abbrev pub HasLineFaultAt : {A : Type 0} → ℕ → Judgement ScriptLineFault A → ScriptFault → Type 0
 HasLineFaultAt number judged (script.At k f) = (k ≡ number) × (judged ≡ Refused (OfLine f))
 HasLineFaultAt number judged (script.Lines count) = ⊥
 HasLineFaultAt number judged (script.Scrambles count) = judged ≡ Refused (OfScrambles count)

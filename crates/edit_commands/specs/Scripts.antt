@@ -8,8 +8,8 @@ use Rattle.fc_nodes.specs.Program.{Unfolding}
 use Rattle.topology.specs.Networks.{Network}
 use Rattle.firing_core.specs.Cores.{Core, EditFits}
 use Rattle.firing_core.specs.Entries.{EditValue, edit_of}
-use Rattle.edit_commands.specs.declared.types.Command.{Command}
-use Rattle.edit_commands.specs.declared.types.Command.TheVariants as command
+use Rattle.edit_commands.specs.declared.types.ScriptCommand.{ScriptCommand}
+use Rattle.edit_commands.specs.declared.types.ScriptCommand.TheVariants as command
 use Rattle.edit_commands.specs.declared.types.Line.{Line}
 use Rattle.edit_commands.specs.declared.types.Fault.{Fault}
 use Rattle.edit_commands.specs.declared.types.Fault.TheVariants as fault
@@ -22,8 +22,8 @@ use Rattle.fc_io.specs.Lines.{lines_of}
 use Rattle.edit_commands.specs.Lines.{words_of}
 use Rattle.fc_values.specs.Numbers.{number_of}
 use Rattle.edit_commands.specs.EditLines.{EditLine, LinkLine, UnlinkLine, SetLine, PokeLine, JoinLine, LeaveLine, with_two, edit_line}
-use Rattle.edit_commands.specs.LineByLine.{Judgement, Refused, unless, Lines, StopsAt, lines_from, Does, SaidBy}
-use Rattle.edit_commands.specs.Judging.{edit_fault, after_edit, IsEdit}
+use Rattle.edit_commands.specs.LineByLine.{Judgement, Refused, unless_fault, Lines, StopsAt, lines_from, Does, SaidBy}
+use Rattle.edit_commands.specs.Judging.{edit_line_fault, edited_network, IsEdit}
 
 -- a line of a script: rounds, an edit, the rubbish of a number, the values, or an edit among firings and then rounds
 pub data ScriptLine : Type 0 where
@@ -39,8 +39,8 @@ pub data ScriptLine : Type 0 where
 abbrev pub if_some : ℕ → Option ℕ
 if_some n = if nat_le 1 n then Some n else None
 
-abbrev pub rounds_of : List ℕ → Option ℕ
-rounds_of word = option_and_then if_some (number_of word)
+abbrev pub written_rounds : List ℕ → Option ℕ
+written_rounds word = option_and_then if_some (number_of word)
 
 -- an edit that may stand among firings
 abbrev pub if_mixed : EditLine → Option EditLine
@@ -64,7 +64,7 @@ mixed_line rounds is words = option_map (MixLine rounds) (mixed_edit is words)
 
 -- the words after the first one
 abbrev pub run_line : List (List ℕ) → Option ScriptLine
-run_line (r ∷ []) = option_map RunLine (rounds_of r)
+run_line (r ∷ []) = option_map RunLine (written_rounds r)
 run_line words = None
 
 abbrev pub scramble_line : List (List ℕ) → Option ScriptLine
@@ -77,7 +77,7 @@ show_line (word ∷ words) = None
 
 abbrev pub mix_line : List Input → List (List ℕ) → Option ScriptLine
 mix_line is [] = None
-mix_line is (r ∷ words) = with_two MixLine (rounds_of r) (mixed_edit is words)
+mix_line is (r ∷ words) = with_two MixLine (written_rounds r) (mixed_edit is words)
 
 -- what the first word says that isn't that of an edit
 abbrev pub script_word : List ℕ → Option ScriptWord
@@ -87,17 +87,17 @@ script_word word =
     if bytes_eq word (codes "scramble") then Some first.Scramble else
     if bytes_eq word (codes "show") then Some first.Show else None
 
-abbrev pub line_by : List Input → Option ScriptWord → List ℕ → List (List ℕ) → Option ScriptLine
-line_by is None word words = do_line is (word ∷ words)
-line_by is (Some first.Run) word words = run_line words
-line_by is (Some first.Mix) word words = mix_line is words
-line_by is (Some first.Scramble) word words = scramble_line words
-line_by is (Some first.Show) word words = show_line words
+abbrev pub script_line_by : List Input → Option ScriptWord → List ℕ → List (List ℕ) → Option ScriptLine
+script_line_by is None word words = do_line is (word ∷ words)
+script_line_by is (Some first.Run) word words = run_line words
+script_line_by is (Some first.Mix) word words = mix_line is words
+script_line_by is (Some first.Scramble) word words = scramble_line words
+script_line_by is (Some first.Show) word words = show_line words
 
 -- the words of a line
 abbrev pub script_line : List Input → List (List ℕ) → Option ScriptLine
 script_line is [] = None
-script_line is (word ∷ words) = line_by is (script_word word) word words
+script_line is (word ∷ words) = script_line_by is (script_word word) word words
 
 -- ---- judging
 
@@ -121,53 +121,53 @@ abbrev pub firings_after : Progress → ℕ → ℕ
 firings_after p rounds = p.firings + rounds * length p.net.devices
 
 -- the fault of a line: one of its own, or that it passes a limit, with the count that is reached
-pub data LineFault : Type 0 where
-  OfLine : Fault → LineFault
-  OfScrambles : ℕ → LineFault
-  OfFirings : ℕ → LineFault
+pub data ScriptLineFault : Type 0 where
+  OfLine : Fault → ScriptLineFault
+  OfScrambles : ℕ → ScriptLineFault
+  OfFirings : ℕ → ScriptLineFault
 
-abbrev pub firings_fault : Progress → ℕ → Option LineFault
+abbrev pub firings_fault : Progress → ℕ → Option ScriptLineFault
 firings_fault p rounds =
     if nat_lt MOST_FIRINGS (firings_after p rounds) then Some (OfFirings (firings_after p rounds)) else None
 
 -- The first fault of a line. In a `mix` the firings are counted before its edit is judged, which is no `leave`.
-abbrev pub line_fault : Unfolding → Core → Progress → ScriptLine → Option LineFault
-line_fault U start p (RunLine r) = firings_fault p r
-line_fault U start p (DoLine l) = option_map OfLine (edit_fault U p.net (flies start p.quiet) l)
-line_fault U start p (ScrambleLine n) =
+abbrev pub script_line_fault : Unfolding → Core → Progress → ScriptLine → Option ScriptLineFault
+script_line_fault U start p (RunLine r) = firings_fault p r
+script_line_fault U start p (DoLine l) = option_map OfLine (edit_line_fault U p.net (flies start p.quiet) l)
+script_line_fault U start p (ScrambleLine n) =
     if nat_le MOST_SCRAMBLES p.scrambles then Some (OfScrambles (p.scrambles + 1)) else None
-line_fault U start p ShowLine = None
-line_fault U start p (MixLine r l) =
-    option_or (firings_fault p (r + 1)) (option_map OfLine (edit_fault U p.net (λ d. false) l))
+script_line_fault U start p ShowLine = None
+script_line_fault U start p (MixLine r l) =
+    option_or (firings_fault p (r + 1)) (option_map OfLine (edit_line_fault U p.net (λ d. false) l))
 
 abbrev pub with_firings : Progress → ℕ → Progress
 with_firings p rounds = record p { quiet = true; firings = firings_after p rounds }
 
 abbrev pub with_edit : Progress → EditLine → Progress
-with_edit p l = record p { net = after_edit p.net l }
+with_edit p l = record p { net = edited_network p.net l }
 
-abbrev pub after_line : Progress → ScriptLine → Progress
-after_line p (RunLine r) = with_firings p r
-after_line p (DoLine l) = with_edit p l
-after_line p (ScrambleLine n) = record p { scrambles = p.scrambles + 1 }
-after_line p ShowLine = p
-after_line p (MixLine r l) = with_edit (with_firings p (r + 1)) l
+abbrev pub progress_after : Progress → ScriptLine → Progress
+progress_after p (RunLine r) = with_firings p r
+progress_after p (DoLine l) = with_edit p l
+progress_after p (ScrambleLine n) = record p { scrambles = p.scrambles + 1 }
+progress_after p ShowLine = p
+progress_after p (MixLine r l) = with_edit (with_firings p (r + 1)) l
 
 -- the words of a line, judged
-abbrev pub line_judged : Unfolding → Core → Progress → Option ScriptLine → Judgement LineFault ScriptLine
-line_judged U start p None = Refused (OfLine fault.Form)
-line_judged U start p (Some l) = unless (line_fault U start p l) l
+abbrev pub script_line_judged : Unfolding → Core → Progress → Option ScriptLine → Judgement ScriptLineFault ScriptLine
+script_line_judged U start p None = Refused (OfLine fault.Form)
+script_line_judged U start p (Some l) = unless_fault (script_line_fault U start p l) l
 
-abbrev pub text_judged : Unfolding → Core → Progress → List ℕ → Judgement LineFault ScriptLine
-text_judged U start p text = line_judged U start p (script_line p.net.declared.inputs (words_of text))
+abbrev pub script_text_judged : Unfolding → Core → Progress → List ℕ → Judgement ScriptLineFault ScriptLine
+script_text_judged U start p text = script_line_judged U start p (script_line p.net.declared.inputs (words_of text))
 
 -- a script: too many lines, or its lines up to the first that has a fault
 pub data Script : Type 0 where
   TooManyLines : ℕ → Script
-  Within : Lines LineFault ScriptLine → Script
+  Within : Lines ScriptLineFault ScriptLine → Script
 
-unfoldable pub lines_in : Unfolding → Core → List ℕ → Lines LineFault ScriptLine
-lines_in U start text = lines_from (text_judged U start) after_line (at_start start.net) 1 (lines_of text)
+unfoldable pub lines_in : Unfolding → Core → List ℕ → Lines ScriptLineFault ScriptLine
+lines_in U start text = lines_from (script_text_judged U start) progress_after (at_start start.net) 1 (lines_of text)
 
 abbrev pub script_of : Unfolding → Core → List ℕ → Script
 script_of U start text =
@@ -185,7 +185,7 @@ pub data CommandValue : Type 0 where
   ShowCommand : CommandValue
   MixCommand : ℕ → EditValue → CommandValue
 
-abbrev pub command_of : Command → CommandValue
+abbrev pub command_of : ScriptCommand → CommandValue
 command_of (command.Run r) = RunCommand r
 command_of (command.Edit e) = EditCommand (edit_of e)
 command_of (command.Scramble n) = ScrambleCommand n
@@ -229,7 +229,7 @@ AllCommandsFit U (c ∷ cs) = CommandFits U c.1 × AllCommandsFit U cs
 
 -- a command that a line says, with what the lines up to it leave
 abbrev pub DoesCommand : Unfolding → Progress → Progress → CommandValue → ScriptLine → Type 0
-DoesCommand U p after c l = Does after_line (IsCommand U) (CommandFits U) p after c l
+DoesCommand U p after c l = Does progress_after (IsCommand U) (CommandFits U) p after c l
 
 -- the commands of a script in which no line has a fault, with the numbers of their lines
 abbrev pub AreCommands : Unfolding → Core → List ℕ → List (ℕ × CommandValue) → Type 0

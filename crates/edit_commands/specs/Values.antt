@@ -60,15 +60,15 @@ abbrev pub goes_on : {A : Type 0} → List (Option A) → Since A → ℕ → Op
 goes_on os (Bytes bs) b = Some (reading os (Bytes (bs ++ b ∷ [])))
 goes_on os (Closed x) b = None
 
-abbrev pub step : {A : Type 0} → (LocalValue → A) → (A → A → A) → Reading A → ℕ → Option (Reading A)
-step atom both r b =
+abbrev pub read_byte : {A : Type 0} → (LocalValue → A) → (A → A → A) → Reading A → ℕ → Option (Reading A)
+read_byte atom both r b =
     if b == 40 then opens r.open_pairs r.since else
     if b == 44 then parts r.open_pairs (part_since atom r.since) else
     if b == 41 then closes both r.open_pairs (part_since atom r.since) else goes_on r.open_pairs r.since b
 
-abbrev pub steps : {A : Type 0} → (LocalValue → A) → (A → A → A) → Reading A → List ℕ → Option (Reading A)
-steps atom both r [] = Some r
-steps atom both r (b ∷ bs) = option_and_then (λ s. steps atom both s bs) (step atom both r b)
+abbrev pub read_bytes : {A : Type 0} → (LocalValue → A) → (A → A → A) → Reading A → List ℕ → Option (Reading A)
+read_bytes atom both r [] = Some r
+read_bytes atom both r (b ∷ bs) = option_and_then (λ s. read_bytes atom both s bs) (read_byte atom both r b)
 
 -- what is read where no bracket is open at the end
 abbrev pub when_closed : {A : Type 0} → List (Option A) → Option A → Option A
@@ -79,12 +79,12 @@ abbrev pub whole_part : {A : Type 0} → (LocalValue → A) → Reading A → Op
 whole_part atom r = when_closed r.open_pairs (part_since atom r.since)
 
 unfoldable pub value_with : {A : Type 0} → (LocalValue → A) → (A → A → A) → List ℕ → Option A
-value_with atom both text = option_and_then (whole_part atom) (steps atom both (reading [] (Bytes [])) text)
+value_with atom both text = option_and_then (whole_part atom) (read_bytes atom both (reading [] (Bytes [])) text)
 
 -- the value that a text writes, if it writes one
-abbrev pub value_of : List ℕ → Option LocalValue
-value_of text = value_with (λ v. v) PairValue text
+abbrev pub written_value : List ℕ → Option LocalValue
+written_value text = value_with (λ v. v) PairValue text
 
 -- so values are read from exactly their texts
 abbrev pub ValuesAreRead : Type 0
-ValuesAreRead = (text : List ℕ) (v : LocalValue) → (value_of text ≡ Some v) ↔ IsValueText text v
+ValuesAreRead = (text : List ℕ) (v : LocalValue) → (written_value text ≡ Some v) ↔ IsValueText text v

@@ -7,5 +7,5 @@ use Rattle.topology.specs.declared.types.TheConstants.{GREATEST_NUMBER}
 abbrev pub if_device : ℕ → Option ℕ
 if_device n = if nat_le n GREATEST_NUMBER then Some n else None
 
-abbrev pub device_of : List ℕ → Option ℕ
-device_of word = option_and_then if_device (number_of word)
+abbrev pub written_device : List ℕ → Option ℕ
+written_device word = option_and_then if_device (number_of word)

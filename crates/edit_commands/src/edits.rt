@@ -5,7 +5,7 @@ ghost use Rattle.std.specs.List.{prefix_len};
 ghost use Rattle.std.specs.Str.{bytes_eq};
 ghost use Rattle.fc_values.specs.Types.{input_of};
 ghost use Rattle.edit_commands.specs.EditLines.{edit_line, edit_word, link_line, unlink_line, set_line};
-ghost use Rattle.edit_commands.specs.EditLines.{poke_line, join_line, leave_line, input_number};
+ghost use Rattle.edit_commands.specs.EditLines.{poke_line, join_line, leave_line, input_index};
 ghost use Rattle.edit_commands.specs.Code.{line_of, texts, ReadsLine, ReadFits};
 
 use crate::values::{read_value, read_values};
@@ -70,7 +70,7 @@ fn before_name(inputs: &[InputDecl], name: &[u8]) -> usize
 #[tactic(auto, using(crate::proofs::Prefixes::prefix_len_mapped))]
 pub fn input_number(inputs: &[InputDecl], name: &[u8]) -> u32
     requires { length inputs.now < 2 ^ 32 }
-    ensures { result ≡ input_number (map input_of inputs.now) name.now }
+    ensures { result ≡ input_index (map input_of inputs.now) name.now }
 {
     before_name(inputs, name) as u32
 }

@@ -4,15 +4,15 @@ ghost use Rattle.std.specs.Prelude.{◌≡◌, ◌≤◌, map, IfOk, IfErr, OnOk
 ghost use Rattle.topology.specs.declared.types.TheConstants.{GREATEST_NUMBER};
 ghost use Rattle.fc_values.specs.Values.{local_of};
 ghost use Rattle.fc_nodes.specs.Program.{unfolding_of};
-ghost use Rattle.topology.specs.Networks.{device_of, lives};
+ghost use Rattle.topology.specs.Networks.{net_device_of, lives};
 ghost use Rattle.topology.specs.Changes.{set_fault, with_input, join_fault, joined, left};
 ghost use Rattle.firing_core.specs.Entries.{edit_of, SetEdit, JoinEdit, LeaveEdit};
 ghost use Rattle.firing_core.specs.Cores.{EditFits};
-ghost use Rattle.edit_commands.specs.Judging.{net_fault, edit_fault, after_edit, IsEdit, PokesWith, poke_fault, leave_fault};
+ghost use Rattle.edit_commands.specs.Judging.{net_fault, edit_line_fault, edited_network, IsEdit, PokesWith, poke_fault, leave_fault};
 ghost use Rattle.edit_commands.specs.Code.{line_of, LineFits, IsFaultOf, flies_in};
 
 use crate::edits::EditLine;
-use crate::types::{Fault, LineFault};
+use crate::types::{Fault, LineFailure};
 use fc_nodes::Unfolded;
 use fc_values::{Local, copy};
 use firing_core::{Core, Edit};
@@ -45,7 +45,7 @@ fn poke(
     device: u32,
     value: Local,
     kept: Vec<Local>,
-) -> Result<Edit, LineFault>
+) -> Result<Edit, LineFailure>
     ensures says { IfOk result (λ e.
         PokesWith (unfolding_of program.now) device (local_of value) (map local_of kept.items) (edit_of e)) }
     ensures allowed { OnOk result (
@@ -54,15 +54,15 @@ fn poke(
         (poke_fault (unfolding_of program.now) net.now device (local_of value) (map local_of kept.items))) }
 {
     if !is_there(net, device) {
-        return Err(LineFault::Bad(Fault::Net(NetFault::NoDevice)));
+        return Err(LineFailure::Bad(Fault::Net(NetFault::NoDevice)));
     }
     if !fits_main(program, &value) {
-        return Err(LineFault::Bad(Fault::Kept));
+        return Err(LineFailure::Bad(Fault::Kept));
     }
     match from_kept(alloc, program, value, kept) {
         Ok(export) => Ok(Edit::Poke(device, export)),
-        Err(KeptFault::At(_)) => Err(LineFault::Bad(Fault::Kept)),
-        Err(KeptFault::Memory) => Err(LineFault::Memory),
+        Err(KeptFault::At(_)) => Err(LineFailure::Bad(Fault::Kept)),
+        Err(KeptFault::Memory) => Err(LineFailure::Memory),
     }
 }
 
@@ -73,7 +73,7 @@ fn set(
     device: u32,
     input: u32,
     value: Local,
-) -> Result<Edit, LineFault>
+) -> Result<Edit, LineFailure>
     ensures says { IfOk result (λ e. edit_of e ≡ SetEdit device input (local_of value)) }
     ensures allowed { OnOk result (set_fault net.old device input (local_of value) ≡ None) }
     ensures after { OnOk result (net.new ≡ with_input net.old device input (local_of value)) }
@@ -85,30 +85,30 @@ fn set(
 }
 
 // The device that joins.
-fn join(alloc: Global, net: &mut Network, device: Device) -> Result<Edit, LineFault>
+fn join(alloc: Global, net: &mut Network, device: Device) -> Result<Edit, LineFailure>
     requires { device.id ≤ GREATEST_NUMBER }
-    ensures says { IfOk result (λ e. edit_of e ≡ JoinEdit (device_of device)) }
-    ensures allowed { OnOk result (join_fault net.old (device_of device) ≡ None) }
-    ensures after { OnOk result (net.new ≡ joined net.old (device_of device)) }
-    ensures refused { IfErr result (IsFaultOf (net_fault (join_fault net.old (device_of device)))) }
+    ensures says { IfOk result (λ e. edit_of e ≡ JoinEdit (net_device_of device)) }
+    ensures allowed { OnOk result (join_fault net.old (net_device_of device) ≡ None) }
+    ensures after { OnOk result (net.new ≡ joined net.old (net_device_of device)) }
+    ensures refused { IfErr result (IsFaultOf (net_fault (join_fault net.old (net_device_of device)))) }
 {
     let kept = copy_device(alloc, &device)?;
     match net.join(device) {
         Ok(()) => Ok(Edit::Join(kept)),
-        Err(JoinFault::Net(fault)) => Err(LineFault::Bad(Fault::Net(fault))),
-        Err(JoinFault::Memory) => Err(LineFault::Memory),
+        Err(JoinFault::Net(fault)) => Err(LineFailure::Bad(Fault::Net(fault))),
+        Err(JoinFault::Memory) => Err(LineFailure::Memory),
     }
 }
 
 // The device that leaves, if it doesn't fly.
-fn leave(net: &mut Network, start: Option<&Core>, device: u32) -> Result<Edit, LineFault>
+fn leave(net: &mut Network, start: Option<&Core>, device: u32) -> Result<Edit, LineFailure>
     ensures says { IfOk result (λ e. edit_of e ≡ LeaveEdit device) }
     ensures allowed { OnOk result (leave_fault net.old (flies_in start.entry) device ≡ None) }
     ensures after { OnOk result (net.new ≡ left net.old device) }
     ensures refused { IfErr result (IsFaultOf (net_fault (leave_fault net.old (flies_in start.entry) device))) }
 {
     if is_there(net, device) && flies(start, device) {
-        return Err(LineFault::Bad(Fault::Net(NetFault::InFlight)));
+        return Err(LineFailure::Bad(Fault::Net(NetFault::InFlight)));
     }
     net.leave(device)?;
     Ok(Edit::Leave(device))
@@ -121,15 +121,15 @@ pub(crate) fn judge(
     net: &mut Network,
     start: Option<&Core>,
     line: EditLine,
-) -> Result<Edit, LineFault>
+) -> Result<Edit, LineFailure>
     requires { LineFits (line_of line) }
     ensures says { IfOk result (λ e. IsEdit (unfolding_of program.now) (line_of line) (edit_of e)) }
     ensures fits { IfOk result (λ e. EditFits (unfolding_of program.now) (edit_of e)) }
     ensures allowed { OnOk result (
-        edit_fault (unfolding_of program.now) net.old (flies_in start.entry) (line_of line) ≡ None) }
-    ensures after { OnOk result (net.new ≡ after_edit net.old (line_of line)) }
+        edit_line_fault (unfolding_of program.now) net.old (flies_in start.entry) (line_of line) ≡ None) }
+    ensures after { OnOk result (net.new ≡ edited_network net.old (line_of line)) }
     ensures refused { IfErr result (IsFaultOf
-        (edit_fault (unfolding_of program.now) net.old (flies_in start.entry) (line_of line))) }
+        (edit_line_fault (unfolding_of program.now) net.old (flies_in start.entry) (line_of line))) }
 {
     match line {
         EditLine::Link(a, b, weight) => {

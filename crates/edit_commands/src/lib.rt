@@ -18,6 +18,6 @@ pub use laws::{
 pub use lines::line_words;
 pub use logs::read_log;
 pub use scripts::read_script;
-pub use types::{Command, Fault, Line, Log, ScriptFault};
+pub use types::{Fault, Line, Log, ScriptCommand, ScriptFault};
 pub use values::read_value;
 pub use words::device_number;

@@ -12,7 +12,7 @@ ghost use Rattle.edit_commands.specs.Code.{HasFault, HasFaultAt};
 use crate::edits::edit_line;
 use crate::judging::judge;
 use crate::lines::line_words;
-use crate::types::{Fault, LineFault, Log, ScriptFault};
+use crate::types::{Fault, LineFailure, Log, ScriptFault};
 use fc_io::{first_line, line_text};
 use fc_nodes::Unfolded;
 use fc_values::number;
@@ -26,14 +26,14 @@ fn read_edit(
     program: &Unfolded,
     net: &mut Network,
     words: &[&[u8]],
-) -> Result<Edit, LineFault>
+) -> Result<Edit, LineFailure>
     requires { net.old.declared ≡ program.now.declared }
     ensures ok { IfOk result (IsEditOf program.now net.old net.new words.now) }
     ensures refused { IfErr result (IsEditFault program.now net.old words.now) }
 {
     let inputs = &program.declared().inputs;
     let Some(line) = edit_line(alloc, inputs, words)? else {
-        return Err(LineFault::Bad(Fault::Form));
+        return Err(LineFailure::Bad(Fault::Form));
     };
     match judge(alloc, program, net, None, line) {
         Ok(edit) => Ok(edit),
@@ -47,7 +47,7 @@ fn read_entry(
     program: &Unfolded,
     net: &mut Network,
     text: &[u8],
-) -> Result<Entry, LineFault>
+) -> Result<Entry, LineFailure>
     requires { net.old.declared ≡ program.now.declared }
     ensures ok { IfOk result (IsEntryOf program.now net.old net.new (line_in program.now net.old text.now)) }
     ensures refused { IfErr result (HasFault (line_in program.now net.old text.now)) }
@@ -61,13 +61,13 @@ fn read_entry(
 }
 
 // The number of a device that begins or ends.
-fn device(digits: &[u8]) -> Result<u32, LineFault>
+fn device(digits: &[u8]) -> Result<u32, LineFailure>
     ensures ok { IfOk result (λ d. number_of digits.now ≡ Some d) }
-    ensures refused { IfErr result (λ f. (number_of digits.now ≡ None) × (f ≡ LineFault.Bad Fault.Form)) }
+    ensures refused { IfErr result (λ f. (number_of digits.now ≡ None) × (f ≡ LineFailure.Bad Fault.Form)) }
 {
     match number(digits) {
         Some(device) => Ok(device),
-        None => Err(LineFault::Bad(Fault::Form)),
+        None => Err(LineFailure::Bad(Fault::Form)),
     }
 }
 
@@ -77,7 +77,7 @@ fn read_edit_entry(
     program: &Unfolded,
     net: &mut Network,
     text: &[u8],
-) -> Result<Entry, LineFault>
+) -> Result<Entry, LineFailure>
     requires { net.old.declared ≡ program.now.declared }
     ensures ok { IfOk result (IsEntryOf program.now net.old net.new (edit_text_in program.now net.old text.now)) }
     ensures refused { IfErr result (HasFault (edit_text_in program.now net.old text.now)) }
@@ -146,10 +146,10 @@ fn read_numbered(
 {
     match read_entry(alloc, program, net, text) {
         Ok(entry) => Ok(entry),
-        Err(LineFault::Bad(fault)) => Err(ScriptFault::At {
+        Err(LineFailure::Bad(fault)) => Err(ScriptFault::At {
             line: number,
             fault,
         }),
-        Err(LineFault::Memory) => Err(ScriptFault::Memory),
+        Err(LineFailure::Memory) => Err(ScriptFault::Memory),
     }
 }

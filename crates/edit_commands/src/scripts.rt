@@ -9,7 +9,7 @@ ghost use Rattle.firing_core.specs.Entries.{edit_of};
 ghost use Rattle.edit_commands.specs.EditLines.{edit_line};
 ghost use Rattle.edit_commands.specs.Judging.{IsEdit};
 ghost use Rattle.edit_commands.specs.Code.{line_of, texts, LineFits, ReadsLine, ReadFits, flies_in};
-ghost use Rattle.edit_commands.specs.Scripts.{OfFirings, ShowLine, ShowCommand, script_word, rounds_of, if_mixed};
+ghost use Rattle.edit_commands.specs.Scripts.{OfFirings, ShowLine, ShowCommand, script_word, written_rounds, if_mixed};
 ghost use Rattle.edit_commands.specs.Scripts.{mixed_edit, run_line, scramble_line, show_line, flies, firings_fault};
 ghost use Rattle.edit_commands.specs.Scripts.{with_firings, with_edit, IsScript, RefusesScript, AreCommands};
 ghost use Rattle.edit_commands.specs.Scripts.{RefusesLines, AllCommandsFit, at_start, command_of, numbered};
@@ -19,7 +19,7 @@ ghost use Rattle.edit_commands.specs.ScriptCode.{edit_in, mixed_in, mix_in, line
 use crate::edits::{EditLine, edit_line};
 use crate::judging::judge;
 use crate::lines::{count_lines, line_words};
-use crate::types::{Command, Fault, Line, LineFault, ScriptFault};
+use crate::types::{Fault, Line, LineFailure, ScriptCommand, ScriptFault};
 use fc_io::{first_line, line_text};
 use fc_nodes::Unfolded;
 use fc_values::{InputDecl, Memory, number};
@@ -66,7 +66,7 @@ fn script_word(word: &[u8]) -> Option<ScriptWord>
 
 // The number of rounds that a word writes, at least one.
 fn rounds(word: &[u8]) -> Option<u32>
-    ensures value { result ≡ rounds_of word.now }
+    ensures value { result ≡ written_rounds word.now }
 {
     let rounds = number(word)?;
     if rounds >= 1 { Some(rounds) } else { None }
@@ -123,7 +123,7 @@ fn run(
     context: &LineContext,
     progress: &mut Progress,
     words: &[&[u8]],
-) -> Result<Command, ScriptFault>
+) -> Result<ScriptCommand, ScriptFault>
     requires { IsReady context.now progress.old }
     ensures ok { IfOk result (Leaves context.now progress.old progress.new (run_line (texts words.now))) }
     ensures refused { IfErr result (IsAtFault context.now progress.old (run_line (texts words.now))) }
@@ -135,7 +135,7 @@ fn run(
         return Err(form(context));
     };
     match add_firings(progress, u64::from(rounds)) {
-        Ok(()) => Ok(Command::Run(rounds)),
+        Ok(()) => Ok(ScriptCommand::Run(rounds)),
         Err(count) => Err(ScriptFault::Firings(count)),
     }
 }
@@ -145,7 +145,7 @@ fn scramble(
     context: &LineContext,
     progress: &mut Progress,
     words: &[&[u8]],
-) -> Result<Command, ScriptFault>
+) -> Result<ScriptCommand, ScriptFault>
     requires { IsReady context.now progress.old }
     ensures ok { IfOk result (Leaves context.now progress.old progress.new (scramble_line (texts words.now))) }
     ensures refused { IfErr result (IsAtFault context.now progress.old (scramble_line (texts words.now))) }
@@ -160,17 +160,17 @@ fn scramble(
         return Err(ScriptFault::Scrambles(progress.scrambles + 1));
     }
     progress.scrambles += 1;
-    Ok(Command::Scramble(seed))
+    Ok(ScriptCommand::Scramble(seed))
 }
 
 // The values, which no words follow.
-fn show(context: &LineContext, words: &[&[u8]]) -> Result<Command, ScriptFault>
+fn show(context: &LineContext, words: &[&[u8]]) -> Result<ScriptCommand, ScriptFault>
     ensures ok { IfOk result (λ c. (show_line (texts words.now) ≡ Some ShowLine) × (command_of c ≡ ShowCommand)) }
     ensures none { OnErr result (show_line (texts words.now) ≡ None) }
     ensures form { IfErr result (λ f. f ≡ ScriptFault.At context.now.number Fault.Form) }
 {
     match words {
-        [] => Ok(Command::Show),
+        [] => Ok(ScriptCommand::Show),
         _ => Err(form(context)),
     }
 }
@@ -199,11 +199,11 @@ fn do_line(
     let start = known(context.core, progress.quiet);
     match judge(alloc, context.program, &mut progress.net, start, line) {
         Ok(edit) => Ok(edit),
-        Err(LineFault::Bad(fault)) => Err(ScriptFault::At {
+        Err(LineFailure::Bad(fault)) => Err(ScriptFault::At {
             line: context.number,
             fault,
         }),
-        Err(LineFault::Memory) => Err(ScriptFault::Memory),
+        Err(LineFailure::Memory) => Err(ScriptFault::Memory),
     }
 }
 
@@ -243,7 +243,7 @@ fn edit_command(
     context: &LineContext,
     progress: &mut Progress,
     words: &[&[u8]],
-) -> Result<Command, ScriptFault>
+) -> Result<ScriptCommand, ScriptFault>
     requires { IsReady context.now progress.old }
     ensures ok { IfOk result (Leaves context.now progress.old progress.new (edit_in progress.old words.now)) }
     ensures refused { IfErr result (IsAtFault context.now progress.old (edit_in progress.old words.now)) }
@@ -253,7 +253,7 @@ fn edit_command(
         return Err(form(context));
     };
     match do_line(alloc, context, progress, line) {
-        Ok(edit) => Ok(Command::Edit(edit)),
+        Ok(edit) => Ok(ScriptCommand::Edit(edit)),
         Err(fault) => Err(fault),
     }
 }
@@ -265,7 +265,7 @@ fn mix_line(
     progress: &mut Progress,
     rounds: u32,
     words: &[&[u8]],
-) -> Result<Command, ScriptFault>
+) -> Result<ScriptCommand, ScriptFault>
     requires { IsReady context.now progress.old }
     ensures ok { IfOk result (Leaves context.now progress.old progress.new (mixed_in progress.old rounds words.now)) }
     ensures refused { IfErr result (IsAtFault context.now progress.old (mixed_in progress.old rounds words.now)) }
@@ -278,7 +278,7 @@ fn mix_line(
         return Err(ScriptFault::Firings(count));
     }
     match do_line(alloc, context, progress, line) {
-        Ok(edit) => Ok(Command::Mix(rounds, edit)),
+        Ok(edit) => Ok(ScriptCommand::Mix(rounds, edit)),
         Err(fault) => Err(fault),
     }
 }
@@ -289,7 +289,7 @@ fn mix(
     context: &LineContext,
     progress: &mut Progress,
     words: &[&[u8]],
-) -> Result<Command, ScriptFault>
+) -> Result<ScriptCommand, ScriptFault>
     requires { IsReady context.now progress.old }
     ensures ok { IfOk result (Leaves context.now progress.old progress.new (mix_in progress.old words.now)) }
     ensures refused { IfErr result (IsAtFault context.now progress.old (mix_in progress.old words.now)) }
@@ -309,7 +309,7 @@ fn read_command(
     context: &LineContext,
     progress: &mut Progress,
     text: &[u8],
-) -> Result<Command, ScriptFault>
+) -> Result<ScriptCommand, ScriptFault>
     requires { IsReady context.now progress.old }
     ensures ok { IfOk result (Leaves context.now progress.old progress.new (text_in progress.old text.now)) }
     ensures refused { IfErr result (IsAtFault context.now progress.old (text_in progress.old text.now)) }
@@ -324,7 +324,7 @@ fn read_words(
     context: &LineContext,
     progress: &mut Progress,
     words: &[&[u8]],
-) -> Result<Command, ScriptFault>
+) -> Result<ScriptCommand, ScriptFault>
     requires { IsReady context.now progress.old }
     ensures ok { IfOk result (Leaves context.now progress.old progress.new (line_in progress.old words.now)) }
     ensures refused { IfErr result (IsAtFault context.now progress.old (line_in progress.old words.now)) }

@@ -8,7 +8,7 @@ use topology::{JoinFault, NetFault};
 /// What a line of a script asks for: rounds; an edit; the rubbish of a number at every device; the values; or an edit
 /// among running firings, and then rounds.
 #[derive(Drop)]
-pub enum Command {
+pub enum ScriptCommand {
     Run(u32),
     Edit(Edit),
     Scramble(u32),
@@ -20,7 +20,7 @@ pub enum Command {
 #[derive(Drop)]
 pub struct Line {
     pub number: u32,
-    pub command: Command,
+    pub command: ScriptCommand,
 }
 
 /// The entries of a log, and in a list as long the numbers of their lines from 1.
@@ -52,42 +52,42 @@ pub enum ScriptFault {
 
 /// The fault of a line, or want of memory.
 #[derive(Clone, Copy, Debug, PartialEq, Eq)]
-pub(crate) enum LineFault {
+pub(crate) enum LineFailure {
     Bad(Fault),
     Memory,
 }
 
-impl From<NetFault> for LineFault {
+impl From<NetFault> for LineFailure {
     ghost use Rattle.std.specs.Prelude.{◌≡◌};
-    ghost use Rattle.edit_commands.specs.declared.types.LineFault.TheVariants as line_fault;
+    ghost use Rattle.edit_commands.specs.declared.types.LineFailure.TheVariants as line_fault;
     ghost use Rattle.edit_commands.specs.declared.types.Fault.TheVariants as fault;
 
     ghost from_gives = { λ f e. e ≡ line_fault.Bad (fault.Net f) };
 
     fn from(fault: NetFault) -> Self {
-        LineFault::Bad(Fault::Net(fault))
+        LineFailure::Bad(Fault::Net(fault))
     }
 }
 
-impl From<Memory> for LineFault {
+impl From<Memory> for LineFailure {
     ghost use Rattle.std.specs.Prelude.{◌≡◌};
-    ghost use Rattle.edit_commands.specs.declared.types.LineFault.TheVariants as line_fault;
+    ghost use Rattle.edit_commands.specs.declared.types.LineFailure.TheVariants as line_fault;
 
     ghost from_gives = { λ _ e. e ≡ line_fault.Memory };
 
     fn from(_: Memory) -> Self {
-        LineFault::Memory
+        LineFailure::Memory
     }
 }
 
-impl From<AllocError> for LineFault {
+impl From<AllocError> for LineFailure {
     ghost use Rattle.std.specs.Prelude.{◌≡◌};
-    ghost use Rattle.edit_commands.specs.declared.types.LineFault.TheVariants as line_fault;
+    ghost use Rattle.edit_commands.specs.declared.types.LineFailure.TheVariants as line_fault;
 
     ghost from_gives = { λ _ e. e ≡ line_fault.Memory };
 
     fn from(_: AllocError) -> Self {
-        LineFault::Memory
+        LineFailure::Memory
     }
 }
 

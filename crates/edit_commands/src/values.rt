@@ -2,7 +2,7 @@
 
 ghost use Rattle.std.specs.Prelude.{◌≡◌, ◌<◌, ◌≤◌, ◌+◌, ◌^◌, length, map, IfOk, OnOk, IfSome, ◌∷◌, option_map};
 ghost use Rattle.fc_values.specs.Values.{local_of};
-ghost use Rattle.edit_commands.specs.Values.{atom_of, value_of, value_with, part_since};
+ghost use Rattle.edit_commands.specs.Values.{atom_of, written_value, value_with, part_since};
 ghost use Rattle.edit_commands.specs.EditLines.{values_of};
 ghost use Rattle.edit_commands.specs.Narrow.{narrow, stand_in, atom_part, pair_part, part_of as part_view};
 ghost use Rattle.edit_commands.specs.Narrow.{half_of, open_of, since_of, StandsBefore, TakesHalf};
@@ -17,7 +17,7 @@ pub const MOST_LEAVES: u32 = 8;
 
 /// A value, with how many numbers and truth values it has, or one that has too many for every type.
 #[derive(Drop)]
-pub(crate) enum Part {
+pub(crate) enum ValuePart {
     Small(Local, u8),
     Wide,
 }
@@ -26,7 +26,7 @@ pub(crate) enum Part {
 #[derive(Drop)]
 pub(crate) enum Since {
     Bytes(usize),
-    Closed(Part),
+    Closed(ValuePart),
 }
 
 // The number or truth value that a text writes.
@@ -44,33 +44,33 @@ fn atom(text: &[u8]) -> Option<Local>
 }
 
 // The part that a text writes that is no pair.
-fn atom_part(text: &[u8]) -> Option<Part>
+fn atom_part(text: &[u8]) -> Option<ValuePart>
     ensures { option_map part_view result ≡ option_map atom_part (atom_of text.now) }
 {
     let value = atom(text)?;
-    Some(Part::Small(value, 1))
+    Some(ValuePart::Small(value, 1))
 }
 
 // The pair of two parts.
-fn pair(alloc: Global, first: Part, second: Part) -> Result<Part, Memory>
+fn pair(alloc: Global, first: ValuePart, second: ValuePart) -> Result<ValuePart, Memory>
     ensures { IfOk result (λ p. part_view p ≡ pair_part (part_view first) (part_view second)) }
 {
-    let Part::Small(a, m) = first else {
-        return Ok(Part::Wide);
+    let ValuePart::Small(a, m) = first else {
+        return Ok(ValuePart::Wide);
     };
-    let Part::Small(b, n) = second else {
-        return Ok(Part::Wide);
+    let ValuePart::Small(b, n) = second else {
+        return Ok(ValuePart::Wide);
     };
     let leaves = u32::from(m) + u32::from(n);
     if leaves > MOST_LEAVES {
-        return Ok(Part::Wide);
+        return Ok(ValuePart::Wide);
     }
     let value = Local::Pair(Box::new(alloc, a)?, Box::new(alloc, b)?);
-    Ok(Part::Small(value, leaves as u8))
+    Ok(ValuePart::Small(value, leaves as u8))
 }
 
 // The part that stands since the last mark before an index of a text.
-fn part_since(text: &[u8], at: usize, since: Since) -> Option<Part>
+fn part_since(text: &[u8], at: usize, since: Since) -> Option<ValuePart>
     requires within { at ≤ length text.now }
     requires before { StandsBefore at since }
     ensures { option_map part_view result ≡ part_since atom_part (since_of text.now at since) }
@@ -82,7 +82,7 @@ fn part_since(text: &[u8], at: usize, since: Since) -> Option<Part>
 }
 
 // Puts a bracket that is open behind others, with its first part where that is there.
-fn push_half(halves: &mut Vec<Option<Part>>, half: Option<Part>) -> Result<(), Memory>
+fn push_half(halves: &mut Vec<Option<ValuePart>>, half: Option<ValuePart>) -> Result<(), Memory>
     ensures { OnOk result (open_of halves.new.items ≡ half_of half ∷ open_of halves.old.items) }
 {
     halves.push(half)?;
@@ -90,14 +90,18 @@ fn push_half(halves: &mut Vec<Option<Part>>, half: Option<Part>) -> Result<(), M
 }
 
 // Takes the last bracket that is open.
-fn pop_half(halves: &mut Vec<Option<Part>>) -> Option<Option<Part>>
+fn pop_half(halves: &mut Vec<Option<ValuePart>>) -> Option<Option<ValuePart>>
     ensures { TakesHalf halves.old.items halves.new.items result }
 {
     halves.pop()
 }
 
 // A bracket opens at an index, where nothing stands since the last mark.
-fn opens(halves: &mut Vec<Option<Part>>, since: Since, at: usize) -> Result<Option<Since>, Memory>
+fn opens(
+    halves: &mut Vec<Option<ValuePart>>,
+    since: Since,
+    at: usize,
+) -> Result<Option<Since>, Memory>
     requires room { at < 2 ^ 63 }
     requires before { StandsBefore at since }
     ensures reads { IfOk result (ReadsOpening at since halves.old.items halves.new.items) }
@@ -115,8 +119,8 @@ fn opens(halves: &mut Vec<Option<Part>>, since: Since, at: usize) -> Result<Opti
 
 // A comma comes at an index, behind a first part.
 fn parts(
-    halves: &mut Vec<Option<Part>>,
-    part: Option<Part>,
+    halves: &mut Vec<Option<ValuePart>>,
+    part: Option<ValuePart>,
     at: usize,
 ) -> Result<Option<Since>, Memory>
     requires { at < 2 ^ 63 }
@@ -139,9 +143,9 @@ fn parts(
 // A bracket closes behind a second part.
 fn closes(
     alloc: Global,
-    halves: &mut Vec<Option<Part>>,
-    part: Option<Part>,
-) -> Result<Option<Part>, Memory>
+    halves: &mut Vec<Option<ValuePart>>,
+    part: Option<ValuePart>,
+) -> Result<Option<ValuePart>, Memory>
     ensures { IfOk result (ReadsClosing part halves.old.items halves.new.items) }
 {
     let Some(half) = pop_half(halves) else {
@@ -172,7 +176,7 @@ fn goes_on(since: Since, at: usize) -> Option<Since>
 // The next byte of a text.
 fn step(
     alloc: Global,
-    halves: &mut Vec<Option<Part>>,
+    halves: &mut Vec<Option<ValuePart>>,
     since: Since,
     text: &[u8],
     at: usize,
@@ -198,7 +202,7 @@ fn step(
 
 // The part that a text writes, if it writes a value.
 #[tactic(auto, unfolding(crate::specs::Values::value_with, crate::specs::Narrow::open_of))]
-fn part_of(alloc: Global, text: &[u8]) -> Result<Option<Part>, Memory>
+fn part_of(alloc: Global, text: &[u8]) -> Result<Option<ValuePart>, Memory>
     ensures { IfOk result (λ p. option_map part_view p ≡ value_with atom_part pair_part text.now) }
 {
     let mut halves = Vec::new(alloc);
@@ -218,11 +222,11 @@ fn part_of(alloc: Global, text: &[u8]) -> Result<Option<Part>, Memory>
 /// The value that a text writes. A pair stands for one that is too wide for every type.
 #[tactic(auto, using(crate::proofs::Narrowed::shown_is_narrow))]
 pub fn read_value(alloc: Global, text: &[u8]) -> Result<Option<Local>, Memory>
-    ensures { IfOk result (λ v. option_map local_of v ≡ option_map narrow (value_of text.now)) }
+    ensures { IfOk result (λ v. option_map local_of v ≡ option_map narrow (written_value text.now)) }
 {
     match part_of(alloc, text)? {
-        Some(Part::Small(value, _)) => Ok(Some(value)),
-        Some(Part::Wide) => Ok(Some(stand_in(alloc)?)),
+        Some(ValuePart::Small(value, _)) => Ok(Some(value)),
+        Some(ValuePart::Wide) => Ok(Some(stand_in(alloc)?)),
         None => Ok(None),
     }
 }

@@ -7,7 +7,7 @@ use Rattle.fc_values.specs.Types.{Declarations}
 use Rattle.fc_values.specs.Fields.{Rises, is_in}
 use Rattle.fc_values.proofs.Rising.{rises_apart, rises_tail, rises_weaker}
 use Rattle.topology.specs.Networks.{NetDevice, Network, LinksFit, numbers, lives, Lives, inputs_in, near_in}
-use Rattle.topology.specs.Nearby.{near_numbers}
+use Rattle.topology.specs.Nearby.{neighbour_numbers}
 use Rattle.topology.proofs.Lemmas.{AllNear, near_fits}
 use Rattle.value_bounds.proofs.Values.{nat_same}
 use Rattle.bound_firing.specs.Firing.{InputsLie}
@@ -99,15 +99,15 @@ module _ (E : Envelope) (N : Network) (w : LiesWithin E N) where
 
 -- the neighbours that a device may have are those of the links as edges
 pub near_same : (d : ℕ) (ls : List MaybeLink)
-    → near_ids (maybe_near d ls) ≡ near_numbers (near_in d (map least_edge ls))
+    → near_ids (maybe_near d ls) ≡ neighbour_numbers (near_in d (map least_edge ls))
 near_same d [] = refl
 near_same d (l ∷ ls) = by_tests (nat_eq l.a d) (nat_eq l.b d) (near_same d ls)
   where
     by_tests : (p q : Bool)
-        → near_ids (maybe_near d ls) ≡ near_numbers (near_in d (map least_edge ls))
+        → near_ids (maybe_near d ls) ≡ neighbour_numbers (near_in d (map least_edge ls))
         → near_ids (if p then (l.b, l) ∷ maybe_near d ls
         else (if q then (l.a, l) ∷ maybe_near d ls else maybe_near d ls))
-        ≡ near_numbers (if p then (l.b, l.least) ∷ near_in d (map least_edge ls)
+        ≡ neighbour_numbers (if p then (l.b, l.least) ∷ near_in d (map least_edge ls)
         else (if q then (l.a, l.least) ∷ near_in d (map least_edge ls) else near_in d (map least_edge ls)))
     by_tests true q ih = ap (λ ks. l.b ∷ ks) ih
     by_tests false true ih = ap (λ ks. l.a ∷ ks) ih
@@ -115,13 +115,13 @@ near_same d (l ∷ ls) = by_tests (nat_eq l.a d) (nat_eq l.b d) (near_same d ls)
 
 -- they are devices that may be there
 all_live : (D : Declarations) (ds : List ℕ) (d : ℕ) (ns : List (ℕ × ℕ)) → AllNear D ds d ns → (e : ℕ)
-    → is_in e (near_numbers ns) ≡ true → is_in e ds ≡ true
+    → is_in e (neighbour_numbers ns) ≡ true → is_in e ds ≡ true
 all_live D ds d [] a e h = absurd cc
 all_live D ds d (n ∷ ns) a e h = by_test (nat_eq e n.0) refl (all_live D ds d ns a.1 e)
   where
-    by_test : (c : Bool) → nat_eq e n.0 ≡ c → (is_in e (near_numbers ns) ≡ true → is_in e ds ≡ true) → is_in e ds ≡ true
+    by_test : (c : Bool) → nat_eq e n.0 ≡ c → (is_in e (neighbour_numbers ns) ≡ true → is_in e ds ≡ true) → is_in e ds ≡ true
     by_test true t ih = let same = nat_same e n.0 t in ap (λ x. is_in x ds) same ∙ a.0.there
-    by_test false t ih = let r : is_in e (near_numbers ns) ≡ true = rw t at h in ih r
+    by_test false t ih = let r : is_in e (neighbour_numbers ns) ≡ true = rw t at h in ih r
 
 pub near_there : (E : Envelope) → IsEnvelope E → (d e : ℕ) → is_in e (near_ids (maybe_near d E.links)) ≡ true
     → MayLive E e

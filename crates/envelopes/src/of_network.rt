@@ -2,7 +2,7 @@
 
 ghost use Rattle.std.specs.Prelude.{◌≡◌, map, IfOk};
 ghost use Rattle.fc_values.specs.Values.{local_of};
-ghost use Rattle.topology.specs.Networks.{device_of, edge_of};
+ghost use Rattle.topology.specs.Networks.{net_device_of, edge_of};
 ghost use Rattle.value_bounds.specs.BoundValues.{exactly as exactly_of};
 ghost use Rattle.value_bounds.specs.References.{local_bounds_in};
 ghost use Rattle.envelopes.specs.Exactly.{exact_device as device_in, exact_envelope as envelope_in, exact_link as link_in};
@@ -26,7 +26,7 @@ pub fn exact_envelope(alloc: Global, network: &Network) -> Result<Envelope, Memo
 }
 
 fn exact_devices(alloc: Global, devices: &[Device]) -> Result<Vec<DeviceBound>, Memory>
-    ensures { IfOk result (λ v. map maybe_device_of v.items ≡ map device_in (map device_of devices.now)) }
+    ensures { IfOk result (λ v. map maybe_device_of v.items ≡ map device_in (map net_device_of devices.now)) }
 {
     let mut bounds = Vec::with_capacity(alloc, devices.len())?;
     for device in devices {

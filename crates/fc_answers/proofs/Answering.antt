@@ -4,13 +4,13 @@ use Rattle.std.proofs.Common.{Option, Some, None}
 use Rattle.std.specs.Prelude.{nat_lt}
 use Rattle.std.proofs.lemmas.Bool.Decides.{nat_tests}
 use Rattle.fc_values.specs.declared.limits.TheConstants.{MOST_BYTES}
-use Rattle.fc_inputs.specs.declared.refusal.Refusal.TheVariants.{Bytes}
-use Rattle.fc_inputs.specs.declared.stop.Stop.{Stop}
-use Rattle.fc_inputs.specs.declared.stop.Stop.TheVariants as stop
-use Rattle.fc_inputs.specs.Answers.{AnswerValue}
-use Rattle.fc_inputs.specs.Causes.{Cause, Plainly, Judged, Refused, answer_of}
-use Rattle.fc_inputs.specs.Sections.{sections_of}
-use Rattle.fc_inputs.specs.Stops.{IsAnswerTo, StopsFor, WhereCause, cause_of, scene_cause}
+use Rattle.command_frame.specs.declared.refusal.Refusal.TheVariants.{Bytes}
+use Rattle.command_frame.specs.declared.stop.Stop.{Stop}
+use Rattle.command_frame.specs.declared.stop.Stop.TheVariants as stop
+use Rattle.command_frame.specs.Answers.{AnswerValue}
+use Rattle.command_frame.specs.Causes.{Cause, Plainly, Judged, Refused, answer_of}
+use Rattle.command_frame.specs.Sections.{sections_of}
+use Rattle.command_frame.specs.Stops.{IsAnswerTo, StopsFor, WhereCause, cause_of, scene_cause}
 use Rattle.fc_answers.specs.Answers.{Answered, OfInput, OfLength}
 
 module _ (Judges : List (List ℕ) → Judged AnswerValue → Type 0) (input : List ℕ) (answer : AnswerValue) where

@@ -3,8 +3,8 @@ use Rattle.command_words.specs.declared.commands.Quiet.{Quiet}
 use Rattle.command_words.specs.declared.commands.Quiet.TheVariants.{Check, Changes, Stable, Replay, Format, Trace, Mail}
 use Rattle.std.proofs.Common.{false}
 use Rattle.fc_values.specs.declared.limits.TheConstants.{MOST_BYTES}
-use Rattle.fc_inputs.specs.Owing.{Owes}
-use Rattle.fc_inputs.specs.Sections.{AreWithin}
+use Rattle.command_frame.specs.Owing.{Owes}
+use Rattle.command_frame.specs.Sections.{AreWithin}
 use Rattle.fc_check.specs.Promises.{CheckOwes}
 use Rattle.fc_changes.specs.Promises.{ChangesOwe}
 use Rattle.fc_stable.specs.Promises.{StableOwes}

@@ -13,16 +13,16 @@ use Rattle.command_words.specs.declared.commands.Work.{Work}
 use Rattle.command_words.specs.declared.commands.Work.TheVariants.{Run, Gen}
 use Rattle.command_words.specs.Commands.{IsThreaded, IsWork, devices_limit, limit_of, workers_limit, work_limit}
 use Rattle.fc_values.specs.declared.limits.TheConstants.{MOST_BYTES, MOST_SCENARIO_DEVICES, MOST_WORKERS}
-use Rattle.fc_inputs.specs.declared.refusal.Refusal.TheVariants.{Usage, Bytes}
-use Rattle.fc_inputs.specs.Agreement.{Agree, AnswersAgree}
-use Rattle.fc_inputs.specs.Answers.{AnswerValue}
-use Rattle.fc_inputs.specs.Causes.{Plainly, Judged, Accepted, Refused, answer_of}
-use Rattle.fc_inputs.specs.Owing.{HasStatus, Owes, RefusesBy}
-use Rattle.fc_inputs.specs.Refusals.{status_of}
-use Rattle.fc_inputs.specs.Sections.{AreWithin, SectionsAreWithin, sections_of}
-use Rattle.fc_inputs.proofs.Agreeing.{answers_agree, both_refused}
-use Rattle.fc_inputs.proofs.Owed.{refused_status}
-use Rattle.fc_inputs.proofs.RefusalStatuses.{by_four}
+use Rattle.command_frame.specs.declared.refusal.Refusal.TheVariants.{Usage, Bytes}
+use Rattle.command_frame.specs.Agreement.{Agree, AnswersAgree}
+use Rattle.command_frame.specs.Answers.{AnswerValue}
+use Rattle.command_frame.specs.Causes.{Plainly, Judged, Accepted, Refused, answer_of}
+use Rattle.command_frame.specs.Owing.{HasStatus, Owes, RefusesBy}
+use Rattle.command_frame.specs.Refusals.{status_of}
+use Rattle.command_frame.specs.Sections.{AreWithin, SectionsAreWithin, sections_of}
+use Rattle.command_frame.proofs.Agreeing.{answers_agree, both_refused}
+use Rattle.command_frame.proofs.Owed.{refused_status}
+use Rattle.command_frame.proofs.RefusalStatuses.{by_four}
 use Rattle.fc_gen.specs.Gens.{Generates}
 use Rattle.fc_answers.specs.Asked.{MayAsk, limit_refusal}
 use Rattle.fc_answers.specs.Answers.{AnswersAsked, AnswersWithin, AnswersWork, OfInput, OfLength, Works}

@@ -5,11 +5,11 @@ use Rattle.edit_commands.specs.LineByLine.{AllLines, StopsAt}
 use Rattle.edit_commands.specs.Scripts.{CommandValue, Script, TooManyLines, Within, script_of}
 use Rattle.log_texts.specs.ReadingBack.{log_lines}
 use Rattle.session.specs.Laws.{ScriptRunsLead}
-use Rattle.fc_inputs.specs.Causes.{Judged, Accepted, Refused, AndThen}
-use Rattle.fc_inputs.specs.Inputs.{InputOf, ReadsInput}
-use Rattle.fc_inputs.specs.Answers.{AnswerValue, showing}
-use Rattle.fc_inputs.specs.Ledgers.{Ledger, book_of}
-use Rattle.fc_inputs.specs.Starts.{start_of}
+use Rattle.command_frame.specs.Causes.{Judged, Accepted, Refused, AndThen}
+use Rattle.command_frame.specs.Inputs.{InputOf, ReadsInput}
+use Rattle.command_frame.specs.Answers.{AnswerValue, showing}
+use Rattle.command_frame.specs.Ledgers.{Ledger, book_of}
+use Rattle.command_frame.specs.Starts.{start_of}
 use Rattle.fc_replay.specs.WrittenLogs.{WrittenLogsReplay}
 use Rattle.command_words.specs.declared.commands.RunOptions.{RunOptions}
 use Rattle.fc_answers.specs.LogsOfRuns.{LogReplays, RunsReplay}

@@ -9,10 +9,10 @@ use Rattle.command_words.specs.declared.commands.Work.{Work}
 use Rattle.command_words.specs.declared.commands.Work.TheVariants.{Run, Gen}
 use Rattle.command_words.specs.Commands.{limit_of}
 use Rattle.fc_values.specs.declared.limits.TheConstants.{MOST_BYTES}
-use Rattle.fc_inputs.specs.declared.refusal.Refusal.TheVariants.{Usage, Bytes}
-use Rattle.fc_inputs.specs.Answers.{AnswerValue}
-use Rattle.fc_inputs.specs.Causes.{Plainly, Judged, Refused, answer_of}
-use Rattle.fc_inputs.specs.Sections.{sections_of, WithOne, WithTwo, WithThree}
+use Rattle.command_frame.specs.declared.refusal.Refusal.TheVariants.{Usage, Bytes}
+use Rattle.command_frame.specs.Answers.{AnswerValue}
+use Rattle.command_frame.specs.Causes.{Plainly, Judged, Refused, answer_of}
+use Rattle.command_frame.specs.Sections.{sections_of, WithOne, WithTwo, WithThree}
 use Rattle.fc_check.specs.Commands.{Checks}
 use Rattle.fc_changes.specs.Commands.{ChecksChanges}
 use Rattle.fc_stable.specs.Stabilised.{Stabilised}

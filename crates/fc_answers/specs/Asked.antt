@@ -7,8 +7,8 @@ use Rattle.command_words.specs.declared.commands.Limit.TheVariants.{Workers, Dev
 use Rattle.command_words.specs.declared.commands.Work.{Work}
 use Rattle.command_words.specs.declared.commands.Work.TheVariants.{Run, Gen}
 use Rattle.command_words.specs.Commands.{IsCommand, limit_of}
-use Rattle.fc_inputs.specs.declared.refusal.Refusal.{Refusal}
-use Rattle.fc_inputs.specs.declared.refusal.Refusal.TheVariants as refusal
+use Rattle.command_frame.specs.declared.refusal.Refusal.{Refusal}
+use Rattle.command_frame.specs.declared.refusal.Refusal.TheVariants as refusal
 
 -- whether work is done on an input: `gen` has none
 abbrev pub takes_input : Work → Bool

@@ -1,4 +1,4 @@
--- What an answer promises: that a yes is kept.
+-- What an answer promises, by the command and the status: that a yes is kept, and what lines say of devices holds.
 use Rattle.std.specs.Prelude.{ℕ, ◌≡◌, ◌≤◌, List, Option, Some, None}
 use Rattle.command_words.specs.declared.commands.Command.{Command}
 use Rattle.command_words.specs.declared.commands.Command.TheVariants as command
@@ -6,9 +6,9 @@ use Rattle.command_words.specs.declared.commands.Quiet.{Quiet}
 use Rattle.command_words.specs.declared.commands.Quiet.TheVariants.{Check, Changes, Stable, Replay, Format, Trace, Mail}
 use Rattle.command_words.specs.declared.commands.Work.{Work}
 use Rattle.command_words.specs.declared.commands.Work.TheVariants.{Run, Gen}
-use Rattle.fc_inputs.specs.Answers.{AnswerValue}
-use Rattle.fc_inputs.specs.Owing.{OfThree, OfTwo}
-use Rattle.fc_inputs.specs.Sections.{sections_of}
+use Rattle.command_frame.specs.Answers.{AnswerValue}
+use Rattle.command_frame.specs.Owing.{OfThree, OfTwo}
+use Rattle.command_frame.specs.Sections.{sections_of}
 use Rattle.fc_check.specs.Promises.{CheckPromises}
 use Rattle.fc_changes.specs.Promises.{ChangesKept}
 use Rattle.fc_stable.specs.Promises.{SolvesYes}
@@ -49,6 +49,7 @@ WorkPromises (Gen options) sections answer = ScenarioAgrees options.number optio
 abbrev pub WorkIsKept : Work → List ℕ → AnswerValue → Type 0
 WorkIsKept work input answer = answer.status ≡ 0 → WorkPromises work (sections_of input) answer
 
+-- an answer to what the words ask for keeps its promise, where its status is one that promises something
 abbrev pub IsKept : Option Command → List ℕ → AnswerValue → Type 0
 IsKept None input answer = Unit {0}
 IsKept (Some (command.Quiet quiet)) input answer =

@@ -4,10 +4,10 @@ use Rattle.command_words.specs.declared.commands.Command.{Command}
 use Rattle.command_words.specs.declared.commands.Command.TheVariants as command
 use Rattle.command_words.specs.declared.commands.Quiet.{Quiet}
 use Rattle.fc_values.specs.declared.limits.TheConstants.{MOST_BYTES}
-use Rattle.fc_inputs.specs.Agreement.{AnswersAgree}
-use Rattle.fc_inputs.specs.Answers.{AnswerValue}
-use Rattle.fc_inputs.specs.Owing.{Owes}
-use Rattle.fc_inputs.specs.Sections.{AreWithin}
+use Rattle.command_frame.specs.Agreement.{AnswersAgree}
+use Rattle.command_frame.specs.Answers.{AnswerValue}
+use Rattle.command_frame.specs.Owing.{Owes}
+use Rattle.command_frame.specs.Sections.{AreWithin}
 use Rattle.fc_run.specs.Promises.{RunOwes}
 use Rattle.fc_gen.specs.Promises.{GenOwes}
 use Rattle.fc_answers.specs.Asked.{MayAsk}

@@ -13,6 +13,7 @@ use Rattle.message_links.specs.declared.entries.TheConstants.{MOST_IN_TRANSIT}
 use Rattle.fc_mail.specs.declared.driven.TheConstants.{MOST_MESSAGES}
 use Rattle.settle_rounds.specs.declared.limits.TheConstants.{MOST_BOUND_FIRINGS}
 
+-- what each limit is
 pub record LimitsAre : Type 0 where
   -- the bytes of an input
   pub bytes : MOST_BYTES ≡ 1048576

@@ -5,10 +5,10 @@ use Rattle.edit_commands.specs.LineByLine.{WhereAccepted}
 use Rattle.log_texts.specs.ReadingBack.{log_lines}
 use Rattle.command_words.specs.declared.commands.ReplayOptions.{ReplayOptions}
 use Rattle.command_words.specs.declared.commands.RunOptions.{RunOptions}
-use Rattle.fc_inputs.specs.Answers.{AnswerValue, showing}
-use Rattle.fc_inputs.specs.Causes.{Judged, Accepted}
-use Rattle.fc_inputs.specs.Ledgers.{Ledger}
-use Rattle.fc_inputs.specs.Tables.{table_line, where_asked}
+use Rattle.command_frame.specs.Answers.{AnswerValue, showing}
+use Rattle.command_frame.specs.Causes.{Judged, Accepted}
+use Rattle.command_frame.specs.Ledgers.{Ledger}
+use Rattle.command_frame.specs.Tables.{table_line, where_asked}
 use Rattle.fc_replay.specs.Replays.{Replays}
 use Rattle.fc_replay.specs.WrittenLogs.{ShowsLog}
 use Rattle.fc_run.specs.Runs.{Runs}

@@ -3,8 +3,8 @@ ghost use Rattle.std.specs.Prelude.{◌≡◌, option_map};
 ghost use Rattle.command_words.specs.Commands.{limit_of};
 ghost use Rattle.fc_answers.specs.Asked.{limit_refusal};
 
+use command_frame::Refusal;
 use command_words::{Limit, Threaded, passed_limit};
-use fc_inputs::Refusal;
 
 // The refusal of a number that is past a limit.
 fn limit_refusal(limit: Limit, count: u32) -> Refusal

@@ -4,11 +4,11 @@ ghost use Rattle.fc_answers.specs.Laws.{AnswerStatuses, CommandsOwe, OneAnswer, 
 ghost use Rattle.fc_answers.specs.Limits.{LimitsAre};
 ghost use Rattle.fc_answers.specs.LogsOfRuns.{RunsReplay};
 
+use command_frame::sections_are_within;
 use fc_changes::changes_owe;
 use fc_check::check_owes;
 use fc_format::format_owes;
 use fc_gen::gen_owes;
-use fc_inputs::sections_are_within;
 use fc_mail::mail_owes;
 use fc_replay::{replay_owes, written_logs_replay};
 use fc_run::run_owes;

@@ -1,19 +1,19 @@
 //! What the quiet commands answer to an input. No thread works here, and no call waits.
 ghost use Rattle.std.specs.Prelude.{◌≤◌, IfErr, IfOk, Some, length};
-ghost use Rattle.fc_inputs.specs.Causes.{Accepted, Refused};
-ghost use Rattle.fc_inputs.specs.Code.{value_of};
-ghost use Rattle.fc_inputs.specs.Sections.{sections_of};
-ghost use Rattle.fc_inputs.specs.Stops.{StopsFor};
+ghost use Rattle.command_frame.specs.Causes.{Accepted, Refused};
+ghost use Rattle.command_frame.specs.Code.{value_of};
+ghost use Rattle.command_frame.specs.Sections.{sections_of};
+ghost use Rattle.command_frame.specs.Stops.{StopsFor};
 ghost use Rattle.fc_values.specs.declared.limits.TheConstants.{MOST_BYTES};
 ghost use Rattle.fc_answers.specs.Answers.{Answers, AnswersSections};
 ghost use Rattle.fc_answers.specs.Headline.{IsKept};
 
 use crate::laws::answers_keep;
+use command_frame::{Answer, Refusal, Stop, refuse, sections, stopped};
 use command_words::{Command, Quiet};
 use fc_changes::check_changes;
 use fc_check::check;
 use fc_format::format;
-use fc_inputs::{Answer, Refusal, Stop, refuse, sections, stopped};
 use fc_mail::mail;
 use fc_replay::replay;
 use fc_stable::stable;

@@ -1,19 +1,19 @@
 //! What `run` answers to an input, and `gen` to a number. Workers do the work, and a call may wait for one of them.
 ghost use Rattle.std.specs.Prelude.{◌≡◌, ◌≤◌, IfErr, IfOk, [], length};
-ghost use Rattle.fc_inputs.specs.Causes.{Accepted, Refused};
-ghost use Rattle.fc_inputs.specs.Code.{value_of};
-ghost use Rattle.fc_inputs.specs.Sections.{WithThree, sections_of};
-ghost use Rattle.fc_inputs.specs.Stops.{StopsFor};
+ghost use Rattle.command_frame.specs.Causes.{Accepted, Refused};
+ghost use Rattle.command_frame.specs.Code.{value_of};
+ghost use Rattle.command_frame.specs.Sections.{WithThree, sections_of};
+ghost use Rattle.command_frame.specs.Stops.{StopsFor};
 ghost use Rattle.fc_run.specs.Runs.{Runs};
 ghost use Rattle.fc_values.specs.declared.limits.TheConstants.{MOST_BYTES, MOST_SCENARIO_DEVICES};
 ghost use Rattle.fc_answers.specs.Answers.{Works};
 ghost use Rattle.fc_answers.specs.Headline.{WorkIsKept};
 
 use crate::laws::commands_owe;
+use command_frame::{Answer, Refusal, Stop, refuse, sections, stopped};
 use command_words::{GenOptions, RunOptions, Work};
 use export_table::Gate;
 use fc_gen::generate;
-use fc_inputs::{Answer, Refusal, Stop, refuse, sections, stopped};
 use fc_run::run;
 use fc_values::{MOST_BYTES, Memory};
 use session::Pool;

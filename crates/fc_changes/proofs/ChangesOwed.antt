@@ -23,17 +23,17 @@ use Rattle.net_json.specs.Scenes.{SceneValue}
 use Rattle.command_words.specs.declared.commands.ChangesOptions.{ChangesOptions}
 use Rattle.command_words.specs.declared.commands.Start.{Start}
 use Rattle.command_words.specs.declared.commands.Start.TheVariants.{Any, Table}
-use Rattle.fc_inputs.specs.Agreement.{Agree}
-use Rattle.fc_inputs.specs.Answers.{AnswerValue, plain}
-use Rattle.fc_inputs.specs.Causes.{Judged, Accepted, Refused, Plainly, answer_of}
-use Rattle.fc_inputs.specs.Inputs.{InputOf, ReadsInput}
-use Rattle.fc_inputs.specs.Owing.{HasStatus, IsZero}
-use Rattle.fc_inputs.specs.Refusals.{changes_refusal}
-use Rattle.fc_inputs.specs.Starts.{InputsAreRead, start_of}
-use Rattle.fc_inputs.proofs.Agreeing.{both_plain, both_refused}
-use Rattle.fc_inputs.proofs.KeptYes.{at_program}
-use Rattle.fc_inputs.proofs.Owed.{OwesScenes, plain_status, refused_status, texts_owe, three_owe, zero_low}
-use Rattle.fc_inputs.proofs.RefusalStatuses.{changes_status}
+use Rattle.command_frame.specs.Agreement.{Agree}
+use Rattle.command_frame.specs.Answers.{AnswerValue, plain}
+use Rattle.command_frame.specs.Causes.{Judged, Accepted, Refused, Plainly, answer_of}
+use Rattle.command_frame.specs.Inputs.{InputOf, ReadsInput}
+use Rattle.command_frame.specs.Owing.{HasStatus, IsZero}
+use Rattle.command_frame.specs.Refusals.{changes_refusal}
+use Rattle.command_frame.specs.Starts.{InputsAreRead, start_of}
+use Rattle.command_frame.proofs.Agreeing.{both_plain, both_refused}
+use Rattle.command_frame.proofs.KeptYes.{at_program}
+use Rattle.command_frame.proofs.Owed.{OwesScenes, plain_status, refused_status, texts_owe, three_owe, zero_low}
+use Rattle.command_frame.proofs.RefusalStatuses.{changes_status}
 use Rattle.fc_changes.specs.Commands.{BoundsChanges, BoundsLines, BoundsText, BoundsWithin, ChecksChanges}
 use Rattle.fc_changes.specs.Commands.{CountsFrom, line_fault_of, change_lines_in}
 use Rattle.fc_changes.specs.Lines.{bounds_text}

@@ -8,9 +8,9 @@ use Rattle.change_envelopes.specs.Envelopes.{IsEnvelopeOf}
 use Rattle.envelopes.specs.Envelopes.{Envelope}
 use Rattle.net_json.specs.Scenes.{SceneValue}
 use Rattle.command_words.specs.declared.commands.ChangesOptions.{ChangesOptions}
-use Rattle.fc_inputs.specs.Answers.{AnswerValue}
-use Rattle.fc_inputs.specs.Causes.{Cause, Accepted, Refused}
-use Rattle.fc_inputs.specs.Inputs.{ReadsInput}
+use Rattle.command_frame.specs.Answers.{AnswerValue}
+use Rattle.command_frame.specs.Causes.{Cause, Accepted, Refused}
+use Rattle.command_frame.specs.Inputs.{ReadsInput}
 use Rattle.fc_changes.specs.Code.{IsRefused}
 use Rattle.fc_changes.specs.Commands.{BoundsLines, BoundsWithin, ChecksChanges, change_lines_in}
 

@@ -23,7 +23,7 @@ use Rattle.settle_rounds.specs.Starts.{growing_cap}
 use Rattle.net_json.specs.Scenes.{SceneValue}
 use Rattle.command_words.specs.declared.commands.Start.{Start}
 use Rattle.command_words.specs.declared.commands.Start.TheVariants.{Any, Table}
-use Rattle.fc_inputs.specs.Starts.{start_of}
+use Rattle.command_frame.specs.Starts.{start_of}
 use Rattle.fc_changes.specs.Commands.{CountsFrom}
 use Rattle.fc_changes.specs.Promises.{EnvelopeHolds, IsAllowed, KeepsYesWithin, LineHolds}
 use Rattle.fc_changes.proofs.Lasts.{all_of}

@@ -7,7 +7,7 @@ use Rattle.bound_firing.specs.declared.firing.ExportBound.{ExportBound as FlatBo
 use Rattle.envelopes.specs.Envelopes.{Envelope}
 use Rattle.settle_rounds.specs.References.{StartBounds}
 use Rattle.net_json.specs.Scenes.{SceneValue}
-use Rattle.fc_inputs.specs.Starts.{start_of}
+use Rattle.command_frame.specs.Starts.{start_of}
 
 pub from_start : (P : Program) (s : SceneValue) (E : Envelope) (core : CoreValue) (most : ℕ) (xs : List FlatBound)
     → core.program ≡ P → core_of core ≡ start_of s → StartBounds (program_of core) E core.net most (core_of core) xs

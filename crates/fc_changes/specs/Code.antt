@@ -11,10 +11,10 @@ use Rattle.settle_rounds.specs.Starts.{growing_cap}
 use Rattle.settle_rounds.specs.Within.{StartTableWithin}
 use Rattle.net_json.specs.Scenes.{SceneValue}
 use Rattle.command_words.specs.declared.commands.ChangesOptions.{ChangesOptions}
-use Rattle.fc_inputs.specs.Answers.{AnswerValue}
-use Rattle.fc_inputs.specs.Causes.{Cause, Plainly}
-use Rattle.fc_inputs.specs.Refusals.{changes_refusal}
-use Rattle.fc_inputs.specs.Starts.{start_of}
+use Rattle.command_frame.specs.Answers.{AnswerValue}
+use Rattle.command_frame.specs.Causes.{Cause, Plainly}
+use Rattle.command_frame.specs.Refusals.{changes_refusal}
+use Rattle.command_frame.specs.Starts.{start_of}
 use Rattle.fc_changes.specs.Commands.{IsWritten, line_fault_of}
 
 -- a cause is the refusal of the first faulty line

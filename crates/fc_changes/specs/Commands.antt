@@ -18,13 +18,13 @@ use Rattle.net_json.specs.Scenes.{SceneValue}
 use Rattle.command_words.specs.declared.commands.ChangesOptions.{ChangesOptions}
 use Rattle.command_words.specs.declared.commands.Start.{Start}
 use Rattle.command_words.specs.declared.commands.Start.TheVariants.{Any, Table}
-use Rattle.fc_inputs.specs.declared.refusal.LineFault.{LineFault}
-use Rattle.fc_inputs.specs.declared.refusal.LineFault.TheVariants.{Form, Net}
-use Rattle.fc_inputs.specs.Answers.{AnswerValue, plain}
-use Rattle.fc_inputs.specs.Causes.{Judged, Accepted, Refused, Plainly}
-use Rattle.fc_inputs.specs.Inputs.{OfScene}
-use Rattle.fc_inputs.specs.Refusals.{changes_refusal}
-use Rattle.fc_inputs.specs.Starts.{start_of}
+use Rattle.command_frame.specs.declared.refusal.LineFault.{LineFault}
+use Rattle.command_frame.specs.declared.refusal.LineFault.TheVariants.{Form, Net}
+use Rattle.command_frame.specs.Answers.{AnswerValue, plain}
+use Rattle.command_frame.specs.Causes.{Judged, Accepted, Refused, Plainly}
+use Rattle.command_frame.specs.Inputs.{OfScene}
+use Rattle.command_frame.specs.Refusals.{changes_refusal}
+use Rattle.command_frame.specs.Starts.{start_of}
 use Rattle.fc_changes.specs.Lines.{bounds_text}
 
 -- the table of bounds from which rounds within an envelope are counted: that of any exports, or the one to which the
@@ -67,7 +67,7 @@ abbrev pub BoundsLines : ChangesOptions → Unfolding → SceneValue → List (�
 BoundsLines options U s ls (Some line) j = j ≡ Refused (Plainly (changes_refusal line.0 (line_fault_of line.1)))
 BoundsLines options U s ls None j = BoundsChanges options U s (said ls) j
 
--- those of a text
+-- what the lines of a text say, each with its number
 abbrev pub change_lines_in : SceneValue → List ℕ → List (ℕ × Option ChangeValue)
 change_lines_in s text = changes_in s.net.declared.inputs text
 

@@ -15,8 +15,8 @@ before_asked Any b = None
 before_asked Table b = Some b
 
 -- the line of a device
-abbrev pub line_of : Start → LastBound → BoundLine
-line_of from l = record {
+abbrev pub bound_line_of : Start → LastBound → BoundLine
+bound_line_of from l = record {
   device = l.device;
   rounds = l.rounds;
   bound = l.bound;
@@ -26,4 +26,4 @@ line_of from l = record {
 
 -- the verdict's text for as many devices as the envelope has, and behind it the lines
 abbrev pub bounds_text : Bool → Start → Unfolding → Envelope → List LastBound → List ℕ
-bounds_text facts from U E ls = checked_text facts U (length E.devices) ++ lines_text (map (line_of from) ls)
+bounds_text facts from U E ls = checked_text facts U (length E.devices) ++ lines_text (map (bound_line_of from) ls)

@@ -26,12 +26,12 @@ use Rattle.net_json.specs.Scenes.{SceneValue}
 use Rattle.command_words.specs.declared.commands.ChangesOptions.{ChangesOptions}
 use Rattle.command_words.specs.declared.commands.Start.{Start}
 use Rattle.command_words.specs.declared.commands.Start.TheVariants.{Any, Table}
-use Rattle.fc_inputs.specs.Answers.{AnswerValue, plain}
-use Rattle.fc_inputs.specs.Causes.{Accepted}
-use Rattle.fc_inputs.specs.Inputs.{ReadsInput}
-use Rattle.fc_inputs.specs.Owing.{IsZero, OfThree, Owes}
-use Rattle.fc_inputs.specs.Sections.{AreWithin, WithThree}
-use Rattle.fc_inputs.specs.Starts.{start_of}
+use Rattle.command_frame.specs.Answers.{AnswerValue, plain}
+use Rattle.command_frame.specs.Causes.{Accepted}
+use Rattle.command_frame.specs.Inputs.{ReadsInput}
+use Rattle.command_frame.specs.Owing.{IsZero, OfThree, Owes}
+use Rattle.command_frame.specs.Sections.{AreWithin, WithThree}
+use Rattle.command_frame.specs.Starts.{start_of}
 use Rattle.fc_changes.specs.Commands.{ChecksChanges, change_lines_in}
 use Rattle.fc_changes.specs.Lines.{bounds_text}
 

@@ -3,8 +3,8 @@
 ghost use Rattle.fc_changes.specs.Promises.{ChangesOwe};
 
 use change_envelopes::{ends_stay, lines_may_happen, one_envelope, scenes_lie, some_envelope};
+use command_frame::inputs_are_read;
 use envelope_bounds::{edits_stay_within, lookups_agree, yes_holds_within};
-use fc_inputs::inputs_are_read;
 use last_bounds::{one_list, some_list};
 use settle_rounds::{
     lines_hold, lines_hold_anyhow, one_start_within, starts_hold_within, starts_stay,

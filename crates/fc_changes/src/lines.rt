@@ -8,15 +8,15 @@ ghost use Rattle.changes.specs.Faults.{NoneRefused};
 ghost use Rattle.changes.specs.Hand.{said};
 ghost use Rattle.change_envelopes.specs.Envelopes.{IsEnvelopeOf};
 ghost use Rattle.change_lines.specs.Changes.{changes_in};
-ghost use Rattle.fc_inputs.specs.Stops.{StopsFor};
+ghost use Rattle.command_frame.specs.Stops.{StopsFor};
 ghost use Rattle.fc_changes.specs.Code.{IsRefused};
 ghost use Rattle.fc_changes.specs.Commands.{line_fault_of};
 
 use change_envelopes::envelope_of_changes;
 use change_lines::read_changes;
 use changes::{ChangeFault, ChangeLine, RefusedChange, judge_changes};
+use command_frame::{LineFault, Stop, changes_refusal};
 use envelopes::Envelope;
-use fc_inputs::{LineFault, Stop, changes_refusal};
 use fc_nodes::Unfolded;
 use fc_values::Memory;
 use std::alloc::Global;

@@ -5,14 +5,14 @@ ghost use Rattle.fc_nodes.specs.Program.{unfolding_of};
 ghost use Rattle.topology.specs.declared.types.TheConstants.{MOST_DEVICES};
 ghost use Rattle.settle_rounds.specs.Rounds.{any_table};
 ghost use Rattle.net_json.specs.SceneCode.{AreCopies, AreRows, value_of_scene};
-ghost use Rattle.fc_inputs.specs.Code.{value_of};
+ghost use Rattle.command_frame.specs.Code.{value_of};
 ghost use Rattle.fc_changes.specs.Code.{IsWrittenFrom};
 ghost use Rattle.fc_changes.specs.Commands.{IsWritten};
 
 use crate::texts::of_start;
+use command_frame::{Answer, start};
 use command_words::ChangesOptions;
 use envelopes::Envelope;
-use fc_inputs::{Answer, start};
 use fc_nodes::Unfolded;
 use fc_values::Memory;
 use net_json::Scene;

@@ -9,15 +9,15 @@ ghost use Rattle.bound_rounds.specs.Tables.{FitTable, Stand};
 ghost use Rattle.last_bounds.specs.References.{last_bound_in};
 ghost use Rattle.bound_texts.specs.BoundTexts.{lines_text};
 ghost use Rattle.bound_texts.specs.References.{line_in};
-ghost use Rattle.fc_inputs.specs.Code.{value_of};
+ghost use Rattle.command_frame.specs.Code.{value_of};
 ghost use Rattle.fc_changes.specs.Commands.{IsWritten};
-ghost use Rattle.fc_changes.specs.Lines.{before_asked, line_of};
+ghost use Rattle.fc_changes.specs.Lines.{before_asked, bound_line_of};
 
 use bound_firing::ExportBound;
 use bound_texts::{BoundLine, bound_lines};
+use command_frame::Answer;
 use command_words::{ChangesOptions, Start};
 use envelopes::Envelope;
-use fc_inputs::Answer;
 use fc_nodes::Unfolded;
 use fc_values::Memory;
 use last_bounds::{LastBound, last_bounds};
@@ -39,7 +39,7 @@ fn before(start: Start, last: &LastBound) -> Option<&LocalBound>
 
 // A last bound, to be shown.
 fn shown(start: Start, last: &LastBound) -> BoundLine<'_>
-    ensures { line_in result ≡ line_of start (last_bound_in last.now) }
+    ensures { line_in result ≡ bound_line_of start (last_bound_in last.now) }
 {
     BoundLine {
         device: last.device,
@@ -58,7 +58,7 @@ fn write_lasts(
     lasts: &[LastBound],
 ) -> Result<(), Memory>
     ensures { OnOk result (out.new.items
-        ≡ out.old.items ++ lines_text (map (line_of start) (map last_bound_in lasts.now))) }
+        ≡ out.old.items ++ lines_text (map (bound_line_of start) (map last_bound_in lasts.now))) }
 {
     let mut lines = Vec::with_capacity(alloc, lasts.len())?;
     for last in lasts {

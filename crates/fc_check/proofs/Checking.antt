@@ -16,15 +16,15 @@ use Rattle.report.specs.Facts.{facts_text}
 use Rattle.verdict_texts.specs.VerdictTexts.{checked_text, facts_behind}
 use Rattle.command_words.specs.declared.commands.Start.{Start}
 use Rattle.command_words.specs.declared.commands.Start.TheVariants.{Any, Table}
-use Rattle.fc_inputs.specs.Agreement.{Agree}
-use Rattle.fc_inputs.specs.Answers.{AnswerValue, plain}
-use Rattle.fc_inputs.specs.Causes.{Judged, Accepted, answer_of}
-use Rattle.fc_inputs.specs.Inputs.{InputOf, ReadsInput}
-use Rattle.fc_inputs.specs.Owing.{HasStatus}
-use Rattle.fc_inputs.specs.Starts.{InputsAreRead, start_of}
-use Rattle.fc_inputs.proofs.Agreeing.{both_plain}
-use Rattle.fc_inputs.proofs.KeptYes.{at_program, yes_kept}
-use Rattle.fc_inputs.proofs.Owed.{OwesScenes, plain_status, texts_owe, two_owe}
+use Rattle.command_frame.specs.Agreement.{Agree}
+use Rattle.command_frame.specs.Answers.{AnswerValue, plain}
+use Rattle.command_frame.specs.Causes.{Judged, Accepted, answer_of}
+use Rattle.command_frame.specs.Inputs.{InputOf, ReadsInput}
+use Rattle.command_frame.specs.Owing.{HasStatus}
+use Rattle.command_frame.specs.Starts.{InputsAreRead, start_of}
+use Rattle.command_frame.proofs.Agreeing.{both_plain}
+use Rattle.command_frame.proofs.KeptYes.{at_program, yes_kept}
+use Rattle.command_frame.proofs.Owed.{OwesScenes, plain_status, texts_owe, two_owe}
 use Rattle.fc_check.specs.Checks.{ChecksScene, verdict_status}
 use Rattle.fc_check.specs.Commands.{Checks, ChecksFrom}
 use Rattle.fc_check.specs.Promises.{CheckOwes, CheckPromises, KeepsYesOnEach, SettlesKept, StartKept, VerdictKept}

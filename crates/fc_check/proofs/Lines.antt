@@ -6,7 +6,7 @@ use Rattle.fc_values.specs.Values.{LocalValue}
 use Rattle.fc_nodes.specs.declared.verdicts.Verdict.{Verdict}
 use Rattle.fc_nodes.specs.Program.{Unfolding}
 use Rattle.topology.specs.declared.types.Device.{Device}
-use Rattle.topology.specs.Networks.{NetDevice, Network, device_of, numbers}
+use Rattle.topology.specs.Networks.{NetDevice, Network, net_device_of, numbers}
 use Rattle.fragment_check.specs.Verdicts.{verdict_of}
 use Rattle.envelopes.specs.Exactly.{exact_envelope}
 use Rattle.envelopes.proofs.Exact.{ids_same}
@@ -16,14 +16,14 @@ use Rattle.settle_rounds.specs.References.{settled_in}
 use Rattle.settle_rounds.specs.SettleTimes.{all_settle_to, settle_cap, settle_time, settled_from, settles_to}
 use Rattle.report.specs.Settling.{settled_device_text, settling_text}
 use Rattle.verdict_texts.specs.VerdictTexts.{checked_text}
-use Rattle.fc_inputs.specs.Answers.{plain}
+use Rattle.command_frame.specs.Answers.{plain}
 use Rattle.fc_check.specs.Settles.{settle_status, settled_devices, settling_of, time_of}
 use Rattle.fc_check.specs.Code.{settled_answer}
 
 -- ---- the lines of devices in code, from a place on
 abbrev pub lines_from : ℕ → List Device → List (Option Settled) → List ℕ
 lines_from i ds xs = flat_map settled_device_text
-    (zip (numbers (map device_of (drop i ds))) (map (option_map settled_in) (drop i xs)))
+    (zip (numbers (map net_device_of (drop i ds))) (map (option_map settled_in) (drop i xs)))
 
 -- ---- devices beside what is made of each
 zip_map : {A : Type 0} (f : ℕ → A) (ds : List ℕ) → zip ds (map f ds) ≡ map (λ (d : ℕ). (d, f d)) ds

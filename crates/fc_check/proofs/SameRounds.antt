@@ -18,7 +18,7 @@ use Rattle.settle_rounds.proofs.Still.{after_agree}
 use Rattle.settle_rounds.specs.SettleTimes.{settle_time, settled_from, settles_to}
 use Rattle.report.specs.Settling.{settling_text}
 use Rattle.verdict_texts.specs.VerdictTexts.{checked_text}
-use Rattle.fc_inputs.specs.Answers.{AnswerValue, plain}
+use Rattle.command_frame.specs.Answers.{AnswerValue, plain}
 use Rattle.fc_check.specs.Settles.{settle_status, settling_of}
 
 abbrev pub Agree : Network → BoundTable → BoundTable → Type 0

@@ -15,11 +15,11 @@ use Rattle.settle_rounds.specs.Within.{OneStartWithin, StartsHoldWithin}
 use Rattle.net_json.specs.Scenes.{SceneValue}
 use Rattle.command_words.specs.declared.commands.Start.{Start}
 use Rattle.command_words.specs.declared.commands.Start.TheVariants.{Any, Table}
-use Rattle.fc_inputs.specs.Agreement.{Agree}
-use Rattle.fc_inputs.specs.Answers.{AnswerValue}
-use Rattle.fc_inputs.specs.Causes.{Judged, Accepted}
-use Rattle.fc_inputs.specs.Starts.{start_of}
-use Rattle.fc_inputs.proofs.Agreeing.{both_plain}
+use Rattle.command_frame.specs.Agreement.{Agree}
+use Rattle.command_frame.specs.Answers.{AnswerValue}
+use Rattle.command_frame.specs.Causes.{Judged, Accepted}
+use Rattle.command_frame.specs.Starts.{start_of}
+use Rattle.command_frame.proofs.Agreeing.{both_plain}
 use Rattle.fc_check.specs.Settles.{SettlesScene, StartsFrom}
 use Rattle.fc_check.proofs.SameRounds.{settling_same}
 use Rattle.fc_check.proofs.SameRounds.{Agree as TablesAgree}

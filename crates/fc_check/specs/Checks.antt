@@ -7,8 +7,8 @@ use Rattle.fc_nodes.specs.declared.verdicts.Verdict.TheVariants as verdict
 use Rattle.fragment_check.specs.Verdicts.{verdict_of}
 use Rattle.net_json.specs.Scenes.{SceneValue}
 use Rattle.verdict_texts.specs.VerdictTexts.{checked_text}
-use Rattle.fc_inputs.specs.Answers.{AnswerValue, plain}
-use Rattle.fc_inputs.specs.Causes.{Judged, Accepted}
+use Rattle.command_frame.specs.Answers.{AnswerValue, plain}
+use Rattle.command_frame.specs.Causes.{Judged, Accepted}
 
 -- the status is 1 exactly where the verdict is a no
 abbrev pub verdict_status : Verdict → ℕ

@@ -4,7 +4,7 @@ use Rattle.fc_values.specs.Values.{LocalValue}
 use Rattle.fc_nodes.specs.declared.verdicts.Verdict.{Verdict}
 use Rattle.settle_rounds.specs.SettleTimes.{settle_time}
 use Rattle.report.specs.Settling.{settling_text}
-use Rattle.fc_inputs.specs.Answers.{AnswerValue, plain}
+use Rattle.command_frame.specs.Answers.{AnswerValue, plain}
 use Rattle.fc_check.specs.Settles.{settle_status}
 
 -- the answer of a verdict's text, and of what each device settles to

@@ -5,9 +5,9 @@ use Rattle.fc_nodes.specs.Program.{Unfolding}
 use Rattle.net_json.specs.Scenes.{SceneValue}
 use Rattle.command_words.specs.declared.commands.CheckOptions.{CheckOptions}
 use Rattle.command_words.specs.declared.commands.Start.{Start}
-use Rattle.fc_inputs.specs.Answers.{AnswerValue}
-use Rattle.fc_inputs.specs.Causes.{Judged}
-use Rattle.fc_inputs.specs.Inputs.{OfScene}
+use Rattle.command_frame.specs.Answers.{AnswerValue}
+use Rattle.command_frame.specs.Causes.{Judged}
+use Rattle.command_frame.specs.Inputs.{OfScene}
 use Rattle.fc_check.specs.Checks.{ChecksScene}
 use Rattle.fc_check.specs.Settles.{SettlesScene}
 

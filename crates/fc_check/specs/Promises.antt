@@ -17,13 +17,13 @@ use Rattle.command_words.specs.declared.commands.CheckOptions.{CheckOptions}
 use Rattle.command_words.specs.declared.commands.Start.{Start}
 use Rattle.command_words.specs.declared.commands.Start.TheVariants.{Any, Table}
 use Rattle.fc_values.specs.declared.limits.TheConstants.{MOST_BYTES}
-use Rattle.fc_inputs.specs.Answers.{AnswerValue}
-use Rattle.fc_inputs.specs.Causes.{Accepted}
-use Rattle.fc_inputs.specs.Inputs.{ReadsInput}
-use Rattle.fc_inputs.specs.Owing.{OfTwo, Owes}
-use Rattle.fc_inputs.specs.Sections.{AreWithin, WithTwo}
-use Rattle.fc_inputs.specs.Starts.{start_of}
-use Rattle.fc_inputs.specs.Yes.{KeepsYes}
+use Rattle.command_frame.specs.Answers.{AnswerValue}
+use Rattle.command_frame.specs.Causes.{Accepted}
+use Rattle.command_frame.specs.Inputs.{ReadsInput}
+use Rattle.command_frame.specs.Owing.{OfTwo, Owes}
+use Rattle.command_frame.specs.Sections.{AreWithin, WithTwo}
+use Rattle.command_frame.specs.Starts.{start_of}
+use Rattle.command_frame.specs.Yes.{YesHolds}
 use Rattle.fc_check.specs.Checks.{verdict_status}
 use Rattle.fc_check.specs.Commands.{Checks}
 use Rattle.fc_check.specs.Settles.{settle_status, settles_text, time_of}
@@ -40,7 +40,7 @@ pub record VerdictKept (program network : List ℕ) (status : ℕ) (text : List 
   pub unfolded : Unfolding
   pub scene : SceneValue
   pub reads : ReadsInput program network (Accepted (unfolded, scene))
-  pub yes : KeepsYes unfolded scene.net
+  pub yes : YesHolds unfolded scene.net
   pub each : KeepsYesOnEach unfolded (length scene.net.devices)
   pub ends : status ≡ verdict_status (verdict_of unfolded (length scene.net.devices))
   pub facts : List ℕ
@@ -53,7 +53,7 @@ pub record SettlesKept (facts : Bool) (program network : List ℕ) (status : ℕ
   pub unfolded : Unfolding
   pub scene : SceneValue
   pub reads : ReadsInput program network (Accepted (unfolded, scene))
-  pub yes : KeepsYes unfolded scene.net
+  pub yes : YesHolds unfolded scene.net
   pub each : KeepsYesOnEach unfolded (length scene.net.devices)
   pub well : SettlesWell unfolded scene.net
   pub ends : status ≡ settle_status (time_of unfolded scene.net (any_table unfolded))
@@ -65,7 +65,7 @@ pub record StartKept (facts : Bool) (program network : List ℕ) (status : ℕ) 
   pub unfolded : Unfolding
   pub scene : SceneValue
   pub reads : ReadsInput program network (Accepted (unfolded, scene))
-  pub yes : KeepsYes unfolded scene.net
+  pub yes : YesHolds unfolded scene.net
   pub each : KeepsYesOnEach unfolded (length scene.net.devices)
   pub table : BoundTable
   pub starts : StartTable unfolded scene.net (growing_cap (length scene.net.devices)) (start_of scene) table

@@ -16,9 +16,9 @@ use Rattle.command_words.specs.declared.commands.Start.{Start}
 use Rattle.command_words.specs.declared.commands.Start.TheVariants.{Any, Table}
 use Rattle.report.specs.Settling.{settling_text}
 use Rattle.verdict_texts.specs.VerdictTexts.{checked_text}
-use Rattle.fc_inputs.specs.Answers.{AnswerValue, plain}
-use Rattle.fc_inputs.specs.Causes.{Judged, Accepted}
-use Rattle.fc_inputs.specs.Starts.{start_of}
+use Rattle.command_frame.specs.Answers.{AnswerValue, plain}
+use Rattle.command_frame.specs.Causes.{Judged, Accepted}
+use Rattle.command_frame.specs.Starts.{start_of}
 
 -- each device, rising, with its settle round from a table of bounds and its value then
 abbrev pub settled_devices : Unfolding → Network → BoundTable → List (ℕ × Option (ℕ × LocalValue))

@@ -2,8 +2,8 @@
 
 ghost use Rattle.fc_check.specs.Promises.{CheckOwes};
 
+use command_frame::inputs_are_read;
 use converge_laws::yes_stabilises;
-use fc_inputs::inputs_are_read;
 use settle_rounds::{one_start_within, settle_times_hold, start_times_hold, starts_hold_within};
 
 /// `check` has one answer to each input. Where its status says yes, the verdict is a yes and is kept; the settle rounds

@@ -4,8 +4,8 @@
 ghost use Rattle.std.specs.Prelude.{◌≡◌, ◌++◌, IfOk, OnOk, flat_map, length, map, option_map, zip};
 ghost use Rattle.fc_values.specs.Values.{local_of};
 ghost use Rattle.fc_nodes.specs.Program.{unfolding_of};
-ghost use Rattle.fc_inputs.specs.Causes.{Accepted};
-ghost use Rattle.fc_inputs.specs.Code.{value_of};
+ghost use Rattle.command_frame.specs.Causes.{Accepted};
+ghost use Rattle.command_frame.specs.Code.{value_of};
 ghost use Rattle.settle_rounds.specs.References.{settled_in};
 ghost use Rattle.settle_rounds.specs.Rounds.{any_table};
 ghost use Rattle.net_json.specs.SceneCode.{AreCopies, AreRows, value_of_scene};
@@ -15,7 +15,7 @@ ghost use Rattle.command_words.specs.declared.commands.Start.TheVariants.{Table}
 ghost use Rattle.fc_check.specs.Code.{settled_answer};
 ghost use Rattle.fc_check.specs.Settles.{SettlesScene, settle_status, settling_of};
 
-use fc_inputs::{Answer, start};
+use command_frame::{Answer, start};
 use fc_nodes::{Unfolded, Verdict};
 use fc_values::{Local, Memory};
 use net_json::Scene;

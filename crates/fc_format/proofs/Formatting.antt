@@ -2,19 +2,19 @@
 use Rattle.std.proofs.Common.{ℕ, ◌≡◌, ◌≤◌, false, List, [], ◌∷◌, refl, ap, ◌∙◌, arith}
 use Rattle.fc_syntax.specs.Terms.{Declaration}
 use Rattle.fc_syntax.specs.Text.{program_text}
-use Rattle.fc_inputs.specs.Agreement.{Agree}
-use Rattle.fc_inputs.specs.Answers.{AnswerValue, plain}
-use Rattle.fc_inputs.specs.declared.stop.Stop.{Stop}
-use Rattle.fc_inputs.specs.Causes.{Judged, Accepted, Refused, judged_map}
-use Rattle.fc_inputs.specs.Inputs.{OneSource}
-use Rattle.fc_inputs.specs.Owing.{HasStatus}
-use Rattle.fc_inputs.specs.Sections.{WithOne, other_number}
-use Rattle.fc_inputs.specs.Sources.{ReadsSource}
-use Rattle.fc_inputs.specs.Stops.{StopsFor}
-use Rattle.fc_inputs.proofs.Agreeing.{both_plain, both_refused}
-use Rattle.fc_inputs.proofs.Owed.{plain_status, refused_status, zero_low}
-use Rattle.fc_inputs.proofs.RefusalStatuses.{IfRefused, by_three, source_refused}
-use Rattle.fc_inputs.proofs.Stopping.{stops_map}
+use Rattle.command_frame.specs.Agreement.{Agree}
+use Rattle.command_frame.specs.Answers.{AnswerValue, plain}
+use Rattle.command_frame.specs.declared.stop.Stop.{Stop}
+use Rattle.command_frame.specs.Causes.{Judged, Accepted, Refused, judged_map}
+use Rattle.command_frame.specs.Inputs.{OneSource}
+use Rattle.command_frame.specs.Owing.{HasStatus}
+use Rattle.command_frame.specs.Sections.{WithOne, other_section_count}
+use Rattle.command_frame.specs.Sources.{ReadsSource}
+use Rattle.command_frame.specs.Stops.{StopsFor}
+use Rattle.command_frame.proofs.Agreeing.{both_plain, both_refused}
+use Rattle.command_frame.proofs.Owed.{plain_status, refused_status, zero_low}
+use Rattle.command_frame.proofs.RefusalStatuses.{IfRefused, by_three, source_refused}
+use Rattle.command_frame.proofs.Stopping.{stops_map}
 use Rattle.fc_format.specs.Formats.{FormatOwes, Formats}
 
 abbrev printed : Judged (List Declaration) → Judged AnswerValue
@@ -30,11 +30,11 @@ status_of_text (Refused cause) j r e = refused_status j cause r e
 
 module _ (source : OneSource) where
   some : (ss : List (List ℕ)) → (j : Judged AnswerValue) × WithOne Formats ss j
-  some [] = (Refused (other_number []), refl)
+  some [] = (Refused (other_section_count []), refl)
   some (program ∷ []) =
       let read = source program in
       (printed read.0, record { judged = read.0; reads = read.1; prints = refl })
-  some (a ∷ b ∷ ss) = (Refused (other_number (a ∷ b ∷ ss)), refl)
+  some (a ∷ b ∷ ss) = (Refused (other_section_count (a ∷ b ∷ ss)), refl)
 
   one : (ss : List (List ℕ)) (j k : Judged AnswerValue) → WithOne Formats ss j → WithOne Formats ss k → Agree false j k
   one [] j k h g = both_refused false j k _ h g
@@ -45,9 +45,9 @@ module _ (source : OneSource) where
   one (a ∷ b ∷ ss) j k h g = both_refused false j k _ h g
 
   statuses : (ss : List (List ℕ)) (j : Judged AnswerValue) → WithOne Formats ss j → HasStatus j
-  statuses [] j h = refused_status j (other_number []) by_three h
+  statuses [] j h = refused_status j (other_section_count []) by_three h
   statuses (program ∷ []) j h = status_of_text h.judged j (source_refused program h.judged h.reads) h.prints
-  statuses (a ∷ b ∷ ss) j h = refused_status j (other_number (a ∷ b ∷ ss)) by_three h
+  statuses (a ∷ b ∷ ss) j h = refused_status j (other_section_count (a ∷ b ∷ ss)) by_three h
 
 pub format_owes : OneSource → FormatOwes
 format_owes source = record {

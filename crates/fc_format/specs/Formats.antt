@@ -3,11 +3,11 @@ use Rattle.std.specs.Prelude.{ℕ, false, ◌≡◌, List}
 use Rattle.fc_syntax.specs.Terms.{Declaration}
 use Rattle.fc_syntax.specs.Text.{program_text}
 use Rattle.fc_values.specs.declared.limits.TheConstants.{MOST_BYTES}
-use Rattle.fc_inputs.specs.Answers.{AnswerValue, plain}
-use Rattle.fc_inputs.specs.Causes.{Judged, judged_map}
-use Rattle.fc_inputs.specs.Owing.{IsZero, Owes}
-use Rattle.fc_inputs.specs.Sections.{AreWithin, WithOne}
-use Rattle.fc_inputs.specs.Sources.{ReadsSource}
+use Rattle.command_frame.specs.Answers.{AnswerValue, plain}
+use Rattle.command_frame.specs.Causes.{Judged, judged_map}
+use Rattle.command_frame.specs.Owing.{IsZero, Owes}
+use Rattle.command_frame.specs.Sections.{AreWithin, WithOne}
+use Rattle.command_frame.specs.Sources.{ReadsSource}
 
 pub record Formats (program : List ℕ) (j : Judged AnswerValue) : Type 0 where
   pub judged : Judged (List Declaration)

@@ -1,13 +1,13 @@
 //! What `format` answers.
 ghost use Rattle.std.specs.Prelude.{◌≤◌, IfErr, IfOk, length, map};
 ghost use Rattle.fc_values.specs.declared.limits.TheConstants.{MOST_BYTES};
-ghost use Rattle.fc_inputs.specs.Causes.{Accepted, Refused};
-ghost use Rattle.fc_inputs.specs.Code.{value_of};
-ghost use Rattle.fc_inputs.specs.Sections.{AreWithin, WithOne};
-ghost use Rattle.fc_inputs.specs.Stops.{StopsFor};
+ghost use Rattle.command_frame.specs.Causes.{Accepted, Refused};
+ghost use Rattle.command_frame.specs.Code.{value_of};
+ghost use Rattle.command_frame.specs.Sections.{AreWithin, WithOne};
+ghost use Rattle.command_frame.specs.Stops.{StopsFor};
 ghost use Rattle.fc_format.specs.Formats.{Formats};
 
-use fc_inputs::{Answer, Stop, one_section, read_source};
+use command_frame::{Answer, Stop, one_section, read_source};
 use fc_syntax::print;
 use std::alloc::Global;
 

@@ -2,7 +2,7 @@
 
 ghost use Rattle.fc_format.specs.Formats.{FormatOwes};
 
-use fc_inputs::one_source;
+use command_frame::one_source;
 
 /// `format` has one answer to each input.
 pub fn format_owes()

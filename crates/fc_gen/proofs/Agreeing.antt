@@ -21,13 +21,13 @@ use Rattle.session.specs.ScriptRuns.{ScriptRun, poke}
 use Rattle.ring_laws.specs.Laws.{RingsAreNetworks, RingsAreTyped, RingsStabilise}
 use Rattle.fc_gen.specs.Gens.{Gens, scenario_lines, scenario_program, scenario_start}
 use Rattle.fc_gen.specs.Promises.{ScenarioAgrees, field_sum}
-use Rattle.fc_gen.specs.Summaries.{agreeing, firings_in, held, held_integer, held_sum, summary_text}
+use Rattle.fc_gen.specs.Summaries.{agreeing, firings_in, held_in, held_integer, held_sum, summary_text}
 use Rattle.fc_gen.proofs.Counting.{EachHolds, all_agree, all_summed}
 use Rattle.fc_gen.proofs.Cutting.{Cut, cut_of, run_firings}
 use Rattle.fc_gen.proofs.Firings.{run_ends}
 use Rattle.fc_gen.proofs.OneGens.{rounds_are}
 use Rattle.fc_gen.proofs.EachScenario.{empty_good, nodes_of, ring_stabilises}
-use Rattle.fc_inputs.specs.Answers.{AnswerValue}
+use Rattle.command_frame.specs.Answers.{AnswerValue}
 
 -- pokes keep the network
 poked_net : (U : Unfolding) (c last : Core) (xs : List (ℕ × FlatExport)) → Run U c (map poke xs) last → last.net ≡ c.net
@@ -52,7 +52,7 @@ module _ (step : StepsKeepGood) (keep : RunsKeepGood) (plain : PlainRunsKeepNet)
       ∙ ap (λ n. rounds * n) (length-map c.middle.net.devices (λ (d : NetDevice). d.id) ∙ ap (λ (n : Network). length n.devices) net)
 
   reached : (log : List EntryValue) (parts : List Part) → Cut (unfolding_of P) start rounds log parts last → (s : Stabilises (unfolding_of P) start.net rounds)
-      → (last.net ≡ start.net) × ((d : ℕ) → Lives start.net d → held last d ≡ Some (s.one.field d))
+      → (last.net ≡ start.net) × ((d : ℕ) → Lives start.net d → held_in last d ≡ Some (s.one.field d))
   reached log parts c s =
       let net : c.middle.net ≡ start.net = poked_net (unfolding_of P) start c.middle c.rubbish c.leads in
       let covers : HasRounds (numbers start.net.devices) c.run rounds = subst (λ (n : Network). HasRounds (numbers n.devices) c.run rounds) net c.stretch.covers in (

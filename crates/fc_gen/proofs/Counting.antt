@@ -11,7 +11,7 @@ use Rattle.firing_core.specs.Cores.{Core}
 use Rattle.fc_values.specs.Values.{LocalValue, IntValue, BoolValue, PairValue, compare_truths, is_equal}
 use Rattle.firing_core.specs.Entries.{EntryValue, BeginEntry, EndEntry, IdleEntry, EditEntry}
 use Rattle.edit_commands.specs.Agreement.{SameEntry, SameEntries}
-use Rattle.fc_gen.specs.Summaries.{agrees, held, held_integer, integer_in, integer_of, is_end, is_held, same_value}
+use Rattle.fc_gen.specs.Summaries.{agrees, held_in, held_integer, integer_in, integer_of, is_end, is_held, same_value}
 
 same_end : (U : Unfolding) (e f : EntryValue) → SameEntry U e f → is_end e ≡ is_end f
 same_end U (BeginEntry d) f h = ap is_end (sym h)
@@ -46,7 +46,7 @@ same_itself (PairValue a b) = both (same_value a a) (same_value b b) (same_itsel
 
 -- ---- what devices of a list hold
 abbrev pub EachHolds : Core → (ℕ → LocalValue) → List ℕ → Type 0
-EachHolds core F ds = (d : ℕ) → is_in d ds ≡ true → held core d ≡ Some (F d)
+EachHolds core F ds = (d : ℕ) → is_in d ds ≡ true → held_in core d ≡ Some (F d)
 
 pub first_in : (d : ℕ) (ds : List ℕ) → is_in d (d ∷ ds) ≡ true
 first_in d ds = let here : nat_eq d d ≡ true = grind (arith, nat_tests) in rw here refl

@@ -6,11 +6,11 @@ use Rattle.converge_laws.specs.Verdicts.{YesStabilises}
 use Rattle.session.specs.Laws.{OneScriptRun, SomeScriptRun}
 use Rattle.ring_laws.specs.Laws.{RingsAreNetworks, RingsAreTyped, RingsStabilise}
 use Rattle.command_words.specs.declared.commands.GenOptions.{GenOptions}
-use Rattle.fc_inputs.specs.Agreement.{Agree}
-use Rattle.fc_inputs.specs.Answers.{AnswerValue}
-use Rattle.fc_inputs.specs.Causes.{Judged, Accepted}
-use Rattle.fc_inputs.specs.Owing.{HasStatus}
-use Rattle.fc_inputs.proofs.Owed.{zero_low}
+use Rattle.command_frame.specs.Agreement.{Agree}
+use Rattle.command_frame.specs.Answers.{AnswerValue}
+use Rattle.command_frame.specs.Causes.{Judged, Accepted}
+use Rattle.command_frame.specs.Owing.{HasStatus}
+use Rattle.command_frame.proofs.Owed.{zero_low}
 use Rattle.fc_gen.specs.Gens.{Generates}
 use Rattle.fc_gen.specs.Promises.{GenOwes, IsScenario, ScenarioAgrees}
 use Rattle.fc_gen.proofs.Agreeing.{agree_all}

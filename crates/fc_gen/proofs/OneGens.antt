@@ -17,9 +17,9 @@ use Rattle.stable_field.specs.Stable.{IsStableField}
 use Rattle.ring_laws.specs.Laws.{RingsAreNetworks, RingsAreTyped, RingsStabilise}
 use Rattle.fc_gen.specs.Gens.{Gens, gen_text, scenario_lines, scenario_program, scenario_start}
 use Rattle.fc_gen.specs.Summaries.{agreeing, firings_in, held_sum, is_end, summary_text}
-use Rattle.fc_inputs.specs.Agreement.{AnswersAgree}
-use Rattle.fc_inputs.specs.Answers.{showing, AnswerValue}
-use Rattle.fc_inputs.specs.Ledgers.{book_of}
+use Rattle.command_frame.specs.Agreement.{AnswersAgree}
+use Rattle.command_frame.specs.Answers.{showing, AnswerValue}
+use Rattle.command_frame.specs.Ledgers.{book_of}
 use Rattle.fc_gen.proofs.Counting.{first_in, same_ends}
 use Rattle.fc_gen.proofs.Cutting.{cut_of, firings}
 use Rattle.fc_gen.proofs.EachScenario.{empty_good, nodes_of, yes_once}

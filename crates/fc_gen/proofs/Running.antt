@@ -19,8 +19,8 @@ use Rattle.scramble.specs.Rings.{ring}
 use Rattle.session.specs.ScriptRuns.{ScriptRun}
 use Rattle.session.specs.Sessions.{HasRun, SessionValue}
 use Rattle.stable_field.specs.Stable.{IsStableField}
-use Rattle.fc_inputs.specs.Answers.{AnswerValue, showing}
-use Rattle.fc_inputs.specs.Ledgers.{book_of, ledger_of}
+use Rattle.command_frame.specs.Answers.{AnswerValue, showing}
+use Rattle.command_frame.specs.Ledgers.{book_of, ledger_of}
 use Rattle.ring_laws.specs.Laws.{RingsStabilise}
 use Rattle.fc_gen.specs.Code.{FirstWithin, IsRun}
 use Rattle.fc_gen.specs.Gens.{Gens, empty_on, gen_text, scenario_lines, scenario_program, scenario_start}

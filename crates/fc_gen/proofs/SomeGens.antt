@@ -14,8 +14,8 @@ use Rattle.scramble.specs.Rings.{ring}
 use Rattle.session.specs.Laws.{SomeScriptRun}
 use Rattle.session.specs.ScriptRuns.{ScriptRun}
 use Rattle.ring_laws.specs.Laws.{RingsAreNetworks, RingsAreTyped, RingsStabilise}
-use Rattle.fc_inputs.specs.Answers.{AnswerValue, showing}
-use Rattle.fc_inputs.specs.Ledgers.{book_of}
+use Rattle.command_frame.specs.Answers.{AnswerValue, showing}
+use Rattle.command_frame.specs.Ledgers.{book_of}
 use Rattle.fc_gen.specs.Gens.{Gens, gen_text, scenario_lines, scenario_program, scenario_start}
 use Rattle.fc_gen.proofs.EachScenario.{empty_good, few_firings, lines_judged, nodes_of, ring_stabilises}
 

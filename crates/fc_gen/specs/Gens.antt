@@ -15,9 +15,9 @@ use Rattle.edit_commands.specs.Scripts.{CommandValue, RunCommand, ScrambleComman
 use Rattle.scramble.specs.Rings.{ring, ring_program}
 use Rattle.session.specs.ScriptRuns.{ScriptRun}
 use Rattle.stable_field.specs.Stable.{IsStableField}
-use Rattle.fc_inputs.specs.Answers.{AnswerValue, showing}
-use Rattle.fc_inputs.specs.Causes.{Judged, Accepted}
-use Rattle.fc_inputs.specs.Ledgers.{book_of}
+use Rattle.command_frame.specs.Answers.{AnswerValue, showing}
+use Rattle.command_frame.specs.Causes.{Judged, Accepted}
+use Rattle.command_frame.specs.Ledgers.{book_of}
 use Rattle.fc_values.specs.declared.limits.TheConstants.{MOST_SCENARIO_DEVICES}
 use Rattle.command_words.specs.declared.commands.GenOptions.{GenOptions}
 use Rattle.fc_gen.specs.Summaries.{agreeing, firings_in, held_sum, summary_text}

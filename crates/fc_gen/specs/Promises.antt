@@ -6,7 +6,7 @@ use Rattle.converge_laws.specs.Stabilising.{Stabilises}
 use Rattle.scramble.specs.Rings.{ring}
 use Rattle.fc_values.specs.declared.limits.TheConstants.{MOST_SCENARIO_DEVICES}
 use Rattle.command_words.specs.declared.commands.GenOptions.{GenOptions}
-use Rattle.fc_inputs.specs.Owing.{IsZero, Owes}
+use Rattle.command_frame.specs.Owing.{IsZero, Owes}
 use Rattle.fc_gen.specs.Gens.{Generates, scenario_program}
 use Rattle.fc_gen.specs.Summaries.{integer_of, summary_text}
 

@@ -20,12 +20,12 @@ is_end IdleEntry = false
 is_end (EditEntry e) = false
 
 -- the entries of a part of a log
-abbrev pub entries_in : List EntryValue → Part → List EntryValue
-entries_in log p = take (p.to - p.from) (drop p.from log)
+abbrev pub entries_of_part : List EntryValue → Part → List EntryValue
+entries_of_part log p = take (p.to - p.from) (drop p.from log)
 
 abbrev pub firings_in : List EntryValue → List Part → ℕ
 firings_in log [] = 0
-firings_in log (p ∷ ps) = count_by is_end (entries_in log p)
+firings_in log (p ∷ ps) = count_by is_end (entries_of_part log p)
 
 -- ---- devices: those whose export has the value of a field
 abbrev pub same_value : LocalValue → LocalValue → Bool
@@ -35,8 +35,8 @@ same_value (PairValue a b) (PairValue c d) = same_value a c && same_value b d
 same_value _ _ = false
 
 -- the value of a device's export
-abbrev pub held : Core → ℕ → Option LocalValue
-held core d = option_map export_value (core.exports d)
+abbrev pub held_in : Core → ℕ → Option LocalValue
+held_in core d = option_map export_value (core.exports d)
 
 abbrev pub is_held : Option LocalValue → LocalValue → Bool
 is_held None v = false
@@ -44,7 +44,7 @@ is_held (Some w) v = same_value w v
 
 -- whether a device's export has the value of an entry of a field
 abbrev pub agrees : Core → ℕ × LocalValue → Bool
-agrees core e = is_held (held core e.0) e.1
+agrees core e = is_held (held_in core e.0) e.1
 
 abbrev pub agreeing : Core → Entries → ℕ
 agreeing core field = count_by (agrees core) field
@@ -59,7 +59,7 @@ integer_in None = 0
 integer_in (Some v) = integer_of v
 
 abbrev pub held_integer : Core → NetDevice → ℕ
-held_integer core d = integer_in (held core d.id)
+held_integer core d = integer_in (held_in core d.id)
 
 abbrev pub held_sum : Core → ℕ
 held_sum core = sum_by (held_integer core) core.net.devices

@@ -6,7 +6,7 @@ ghost use Rattle.fc_values.specs.Values.{local_of};
 ghost use Rattle.firing_core.specs.CoreViews.{core_of};
 ghost use Rattle.firing_core.specs.Entries.{entries_of, entry_of};
 ghost use Rattle.fc_gen.specs.Code.{FirstWithin};
-ghost use Rattle.fc_gen.specs.Summaries.{agreeing as agreeing_of, firings_in, held as held_in, held_sum as sum_of};
+ghost use Rattle.fc_gen.specs.Summaries.{agreeing as agreeing_of, firings_in, held_in, held_sum as sum_of};
 ghost use Rattle.fc_gen.specs.Summaries.{integer_in, is_end as ends_firing, is_held, same_value};
 
 use fc_values::Local;

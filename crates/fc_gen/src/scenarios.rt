@@ -13,19 +13,19 @@ ghost use Rattle.fragment_check.specs.Verdicts.{verdict_of};
 ghost use Rattle.edit_commands.specs.Scripts.{numbered};
 ghost use Rattle.scramble.specs.Rings.{ring, ring_program};
 ghost use Rattle.stable_field.specs.Stable.{IsStableField};
-ghost use Rattle.fc_inputs.specs.Answers.{showing};
-ghost use Rattle.fc_inputs.specs.Causes.{Accepted};
-ghost use Rattle.fc_inputs.specs.Ledgers.{ledger_of};
+ghost use Rattle.command_frame.specs.Answers.{showing};
+ghost use Rattle.command_frame.specs.Causes.{Accepted};
+ghost use Rattle.command_frame.specs.Ledgers.{ledger_of};
 ghost use Rattle.fc_gen.specs.Code.{FirstWithin, IsRun};
 ghost use Rattle.fc_gen.specs.Gens.{Generates, Gens, gen_text, scenario_lines, scenario_program};
-ghost use Rattle.fc_inputs.specs.Code.{value_of};
+ghost use Rattle.command_frame.specs.Code.{value_of};
 
 use crate::counts::{agreeing, firings, held_sum};
 use crate::summaries::{Counts, summary};
+use command_frame::Answer;
 use command_words::GenOptions;
-use edit_commands::{Command, Line};
+use edit_commands::{Line, ScriptCommand};
 use export_table::Gate;
-use fc_inputs::Answer;
 use fc_nodes::Unfolded;
 use fc_syntax::Program;
 use fc_types::{TypeFault, Typed, check_types};
@@ -100,11 +100,11 @@ fn lines_of(number: u32, rounds: u32) -> [Line; 2]
     [
         Line {
             number: 1,
-            command: Command::Scramble(number),
+            command: ScriptCommand::Scramble(number),
         },
         Line {
             number: 2,
-            command: Command::Run(rounds),
+            command: ScriptCommand::Run(rounds),
         },
     ]
 }

@@ -7,7 +7,7 @@ use Rattle.std.proofs.lemmas.List.{map-append}
 use Rattle.fc_lexer.specs.declared.bytes.Class.{Class}
 use Rattle.fc_lexer.specs.declared.bytes.Class.TheVariants.{Space, Digit, Letter, Slash, Dot, Equals, Single, Other}
 use Rattle.fc_values.specs.Names.{is_digit, is_name_byte}
-use Rattle.fc_lexer.specs.Bytes.{is_space, is_in_line, is_rest, is_piece, begins}
+use Rattle.fc_lexer.specs.Bytes.{is_space, is_in_line, is_rest, is_piece, begun_class}
 use Rattle.fc_lexer.specs.Kinds.{TokenKind, TokenView, token_kind}
 use Rattle.fc_lexer.specs.Lexes.{IsLongest, Cut, line_at, token_as, tokens_from}
 use Rattle.fc_lexer.specs.Apart.{Breaks, Piece, ReadsBack, StandApart, kind_as, kinds_of, sizes_of, text_of, view_kind}
@@ -54,16 +54,16 @@ past (Single s) [] (c ∷ rest) (suc m) t b h le = refl
 past (Single s) (d ∷ bs) (c ∷ rest) m t b h le = cc
 past Other bs (c ∷ rest) m t b h le = cc
 
-piece_longest : (b : ℕ) (bs rest : List ℕ) → is_rest (begins b) bs ≡ true → Breaks (begins b) bs rest → IsLongest (b ∷ (bs ++ rest)) (suc (length bs))
+piece_longest : (b : ℕ) (bs rest : List ℕ) → is_rest (begun_class b) bs ≡ true → Breaks (begun_class b) bs rest → IsLongest (b ∷ (bs ++ rest)) (suc (length bs))
 piece_longest b bs rest t br = record {
   within = omega (arith, length-append bs rest);
-  piece = ap (is_rest (begins b)) (take-append_seam bs rest) ∙ t;
+  piece = ap (is_rest (begun_class b)) (take-append_seam bs rest) ∙ t;
   longest = further;
 }
   where
     further : (m : ℕ) → suc (length bs) < m → m ≤ length (b ∷ (bs ++ rest)) → is_piece (take m (b ∷ (bs ++ rest))) ≡ false
     further zero h le = absurd (omega arith)
-    further (suc m) h le = past (begins b) bs rest m t br (omega arith) (omega arith)
+    further (suc m) h le = past (begun_class b) bs rest m t br (omega arith) (omega arith)
 
 pub cut_back : (ps : List Piece) → StandApart ps → Cut (text_of ps) (sizes_of ps) []
 cut_back [] h = refl

@@ -9,7 +9,7 @@ use Rattle.fc_lexer.specs.declared.tokens.Mark.TheVariants as mark
 use Rattle.fc_lexer.specs.declared.bytes.Class.{Class}
 use Rattle.fc_lexer.specs.declared.bytes.Class.TheVariants.{Space, Digit, Letter, Slash, Dot, Equals, Single, Other}
 use Rattle.fc_values.specs.Names.{is_digit, is_letter}
-use Rattle.fc_lexer.specs.Bytes.{begins, is_piece, is_rest, is_space, mark_of}
+use Rattle.fc_lexer.specs.Bytes.{begun_class, is_piece, is_rest, is_space, mark_of}
 use Rattle.fc_lexer.specs.Kinds.{written}
 
 -- one test of a chain
@@ -51,20 +51,20 @@ mark_is_single b =
 pub no_mark : (want : Class) (b : ℕ) → is_single want ≡ false → mark_of b ≡ want → ⊥
 no_mark want b h e = let f : is_single want ≡ true = ap is_single (sym e) ∙ mark_is_single b in cc
 
-is_digit_of : (b : ℕ) → begins b ≡ Digit → is_digit b ≡ true
-unfolding begins
+is_digit_of : (b : ℕ) → begun_class b ≡ Digit → is_digit b ≡ true
+unfolding begun_class
 is_digit_of b h =
     taken (is_digit b) _
     (skip (is_letter b) Letter _ (λ e. cc) (skip (b == 47) Slash _ (λ e. cc) (skip (b == 46) Dot _ (λ e. cc)
     (skip (b == 61) Equals (mark_of b) (λ e. cc) (no_mark Digit b refl)))))
     (other_than (is_space b) Space _ (λ e. cc) h)
 
-digits_from : (b : ℕ) (bs : List ℕ) → begins b ≡ Digit → is_piece (b ∷ bs) ≡ true → list_all is_digit (b ∷ bs) ≡ true
+digits_from : (b : ℕ) (bs : List ℕ) → begun_class b ≡ Digit → is_piece (b ∷ bs) ≡ true → list_all is_digit (b ∷ bs) ≡ true
 digits_from b bs e h =
     let f : list_all is_digit bs ≡ true = subst (λ class. is_rest class bs ≡ true) e h in
     ap (λ t. t && list_all is_digit bs) (is_digit_of b e) ∙ f
 
-pub all_digits : (bs : List ℕ) → 1 ≤ length bs → begins (get_or bs 0 0) ≡ Digit → is_piece bs ≡ true → list_all is_digit bs ≡ true
+pub all_digits : (bs : List ℕ) → 1 ≤ length bs → begun_class (get_or bs 0 0) ≡ Digit → is_piece bs ≡ true → list_all is_digit bs ≡ true
 all_digits [] l e h = refl
 all_digits (b ∷ bs) l e h = digits_from b bs e h
 
@@ -77,8 +77,8 @@ second_of false true rest a b = refl
 second_of false false rest a b = cc
 second_of true d rest a b = cc
 
-pub digit_begins : (b : ℕ) → is_digit b ≡ true → begins b ≡ Digit
-unfolding begins
+pub digit_begins : (b : ℕ) → is_digit b ≡ true → begun_class b ≡ Digit
+unfolding begun_class
 digit_begins b h = second_of (is_space b) (is_digit b) _ (digit_no_space b h) h
 
 -- the number that is written by one more digit

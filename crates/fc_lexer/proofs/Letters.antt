@@ -8,7 +8,7 @@ use Rattle.fc_values.specs.declared.names.Word.{Word}
 use Rattle.fc_values.specs.Names.{is_digit, is_letter, is_name_byte, word_of, IsName}
 use Rattle.fc_lexer.specs.declared.bytes.Class.{Class}
 use Rattle.fc_lexer.specs.declared.bytes.Class.TheVariants.{Space, Digit, Letter, Slash, Dot, Equals, Single, Other}
-use Rattle.fc_lexer.specs.Bytes.{begins, mark_of, is_rest, is_piece, is_space}
+use Rattle.fc_lexer.specs.Bytes.{begun_class, mark_of, is_rest, is_piece, is_space}
 use Rattle.fc_lexer.specs.Kinds.{TokenKind, NumberOf, WordOf, NameOf, MarkOf, token_kind, token_kind_as, word_or_name_of}
 use Rattle.fc_lexer.proofs.Digits.{no_mark, skip}
 
@@ -36,8 +36,8 @@ third false true l rest a b c = cc
 third true d l rest a b c = cc
 
 -- a letter begins a name or word
-pub letter_begins : (b : ℕ) → is_letter b ≡ true → begins b ≡ Letter
-unfolding begins
+pub letter_begins : (b : ℕ) → is_letter b ≡ true → begun_class b ≡ Letter
+unfolding begun_class
 letter_begins b h = third (is_space b) (is_digit b) (is_letter b) _ (letter_no_space b h) (letter_no_digit b h) h
 
 -- and no other byte does
@@ -48,8 +48,8 @@ letter_only false true l rest n h = cc
 letter_only false false true rest n h = refl
 letter_only false false false rest n h = absurd (n h)
 
-is_letter_of : (b : ℕ) → begins b ≡ Letter → is_letter b ≡ true
-unfolding begins
+is_letter_of : (b : ℕ) → begun_class b ≡ Letter → is_letter b ≡ true
+unfolding begun_class
 is_letter_of b h =
     letter_only (is_space b) (is_digit b) (is_letter b) _
     (skip (b == 47) Slash _ (λ e. cc) (skip (b == 46) Dot _ (λ e. cc) (skip (b == 61) Equals (mark_of b) (λ e. cc) (no_mark Letter b refl)))) h
@@ -70,7 +70,7 @@ all_three true true (Some w) p q r = cc
 all_three true false o p q r = cc
 all_three false b o p q r = cc
 
-is_name_of : (b : ℕ) (bs : List ℕ) → begins b ≡ Letter → is_rest (begins b) bs ≡ true → word_of (b ∷ bs) ≡ None → IsName (b ∷ bs)
+is_name_of : (b : ℕ) (bs : List ℕ) → begun_class b ≡ Letter → is_rest (begun_class b) bs ≡ true → word_of (b ∷ bs) ≡ None → IsName (b ∷ bs)
 is_name_of b bs c r w =
     all_three (is_letter b) (list_all is_name_byte bs) (word_of (b ∷ bs)) (is_letter_of b c) (subst (λ class. is_rest class bs ≡ true) c r) w
 
@@ -83,7 +83,7 @@ pub name_piece : (word : List ℕ) → IsName word → (is_piece word ≡ true) 
 name_piece [] h = absurd cc
 name_piece (b ∷ bs) h =
     let parts = name_parts b bs h in
-    let l : begins b ≡ Letter = letter_begins b parts.0 in
+    let l : begun_class b ≡ Letter = letter_begins b parts.0 in
     (ap (λ class. is_rest class bs) l ∙ parts.1, ap (λ class. token_kind_as class (b ∷ bs) bs) l ∙ ap Some (is_named b bs parts.2))
 
 -- a piece that is the token of a name is this name
@@ -94,12 +94,12 @@ IfNamed piece (Some (WordOf w)) = Unit {0}
 IfNamed piece (Some (NameOf x)) = (x ≡ piece) × IsName x
 IfNamed piece (Some (MarkOf m)) = Unit {0}
 
-named_or_word : (b : ℕ) (bs : List ℕ) (w : Option Word) → begins b ≡ Letter → is_rest (begins b) bs ≡ true → word_of (b ∷ bs) ≡ w
+named_or_word : (b : ℕ) (bs : List ℕ) (w : Option Word) → begun_class b ≡ Letter → is_rest (begun_class b) bs ≡ true → word_of (b ∷ bs) ≡ w
     → IfNamed (b ∷ bs) (Some (option_map_or WordOf w (NameOf (b ∷ bs))))
 named_or_word b bs None c r e = (refl, is_name_of b bs c r e)
 named_or_word b bs (Some w) c r e = tt
 
-named_as : (b : ℕ) (bs : List ℕ) (class : Class) → begins b ≡ class → is_rest (begins b) bs ≡ true → IfNamed (b ∷ bs) (token_kind_as class (b ∷ bs) bs)
+named_as : (b : ℕ) (bs : List ℕ) (class : Class) → begun_class b ≡ class → is_rest (begun_class b) bs ≡ true → IfNamed (b ∷ bs) (token_kind_as class (b ∷ bs) bs)
 named_as b bs Space c r = tt
 named_as b bs Digit c r = tt
 named_as b bs Letter c r = named_or_word b bs (word_of (b ∷ bs)) c r refl
@@ -112,4 +112,4 @@ named_as b bs Other c r = tt
 
 pub named_piece : (piece : List ℕ) → is_piece piece ≡ true → IfNamed piece (token_kind piece)
 named_piece [] h = tt
-named_piece (b ∷ bs) h = named_as b bs (begins b) refl h
+named_piece (b ∷ bs) h = named_as b bs (begun_class b) refl h

@@ -6,7 +6,7 @@ use Rattle.std.proofs.lemmas.List.Sums.{prefix_len-le-length}
 use Rattle.fc_lexer.specs.declared.bytes.Class.{Class}
 use Rattle.fc_lexer.specs.declared.bytes.Class.TheVariants.{Space, Digit, Letter, Slash, Dot, Equals, Single, Other}
 use Rattle.fc_values.specs.Names.{is_digit, is_name_byte}
-use Rattle.fc_lexer.specs.Bytes.{is_space, is_in_line, is_rest, is_piece, begins}
+use Rattle.fc_lexer.specs.Bytes.{is_space, is_in_line, is_rest, is_piece, begun_class}
 use Rattle.fc_lexer.specs.Sizes.{size_as, size_of}
 use Rattle.fc_lexer.specs.Lexes.{IsLongest, IsStuck}
 
@@ -151,14 +151,14 @@ size_is (Single s) bs = record { within = omega arith; none = λ z. absurd (omeg
 size_is Other bs = record { within = omega arith; none = λ z m le. refl; piece = λ k e. absurd (omega arith); longest = λ m h le. refl }
 
 -- of a text
-longest_of : (b : ℕ) (bs : List ℕ) (n : ℕ) → IsSize (begins b) bs (suc n) → IsLongest (b ∷ bs) (suc n)
+longest_of : (b : ℕ) (bs : List ℕ) (n : ℕ) → IsSize (begun_class b) bs (suc n) → IsLongest (b ∷ bs) (suc n)
 longest_of b bs n s = record { within = omega (arith, s.within); piece = s.piece n refl; longest = further }
   where
     further : (m : ℕ) → suc n < m → m ≤ length (b ∷ bs) → is_piece (take m (b ∷ bs)) ≡ false
     further zero h le = absurd (omega arith)
     further (suc m) h le = s.longest m h (omega arith)
 
-stuck_of : (b : ℕ) (bs : List ℕ) → IsSize (begins b) bs 0 → IsStuck (b ∷ bs)
+stuck_of : (b : ℕ) (bs : List ℕ) → IsSize (begun_class b) bs 0 → IsStuck (b ∷ bs)
 stuck_of b bs s = (omega arith, never)
   where
     never : (m : ℕ) → m ≤ length (b ∷ bs) → is_piece (take m (b ∷ bs)) ≡ false
@@ -168,8 +168,8 @@ stuck_of b bs s = (omega arith, never)
 pub longest : (bytes : List ℕ) (n : ℕ) → n ≡ size_of bytes → n ≢ 0 → IsLongest bytes n
 longest [] n e h = absurd (h e)
 longest (b ∷ bs) zero e h = absurd (h refl)
-longest (b ∷ bs) (suc n) e h = longest_of b bs n (subst (IsSize (begins b) bs) (sym e) (size_is (begins b) bs))
+longest (b ∷ bs) (suc n) e h = longest_of b bs n (subst (IsSize (begun_class b) bs) (sym e) (size_is (begun_class b) bs))
 
 pub stuck : (bytes : List ℕ) (n : ℕ) → n ≡ size_of bytes → n ≡ 0 → 0 < length bytes → IsStuck bytes
 stuck [] n e z h = absurd (omega arith)
-stuck (b ∷ bs) n e z h = stuck_of b bs (subst (IsSize (begins b) bs) (sym e ∙ z) (size_is (begins b) bs))
+stuck (b ∷ bs) n e z h = stuck_of b bs (subst (IsSize (begun_class b) bs) (sym e ∙ z) (size_is (begun_class b) bs))

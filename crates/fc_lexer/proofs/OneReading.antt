@@ -5,7 +5,7 @@ use Rattle.std.proofs.lemmas.List.{drop-drop}
 use Rattle.std.proofs.lemmas.List.Sums.{sum_by-cons}
 use Rattle.fc_lexer.specs.Sizes.{size_of}
 use Rattle.fc_lexer.specs.Kinds.{TokenView}
-use Rattle.fc_lexer.specs.Lexes.{IsLongest, IsStuck, Cut, Lexes, StopsAt, tokens_from}
+use Rattle.fc_lexer.specs.Lexes.{IsLongest, IsStuck, Cut, Lexes, IsStuckAt, tokens_from}
 use Rattle.fc_lexer.specs.Laws.{OneList, OneStop, NeverBoth, AlwaysOne}
 use Rattle.fc_lexer.proofs.Longest.{longest, stuck}
 
@@ -85,7 +85,7 @@ read_some k [] h = inl ([], refl)
 read_some zero (b ∷ bs) h = absurd (omega arith)
 read_some (suc k) (b ∷ bs) h = read_step (b ∷ bs) k (size_of (b ∷ bs)) refl (omega arith) h (λ rest le. read_some k rest le)
 
-answer_of : (text : List ℕ) → IsRead text → ((ts : List TokenView) × Lexes text ts) ⊎ ((i : ℕ) × StopsAt text i)
+answer_of : (text : List ℕ) → IsRead text → ((ts : List TokenView) × Lexes text ts) ⊎ ((i : ℕ) × IsStuckAt text i)
 answer_of text (inl a) = inl (tokens_from text 0 a.0, record { sizes = a.0; pieces = a.1; tokens_are = refl })
 answer_of text (inr a) = inr (sum a.0, record { sizes = a.0; index = refl; pieces = a.1; stuck = a.2 })
 

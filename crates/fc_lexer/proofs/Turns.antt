@@ -12,7 +12,7 @@ use Rattle.fc_lexer.specs.declared.tokens.LexFault.TheVariants as fault
 use Rattle.fc_lexer.specs.Bytes.{is_line_feed, is_piece}
 use Rattle.fc_lexer.specs.Sizes.{size_of}
 use Rattle.fc_lexer.specs.Kinds.{TokenKind, TokenView, kind_view, token_kind, token_view, tokens_of}
-use Rattle.fc_lexer.specs.Lexes.{IsAlone, StopsAlone, IsLongest, Cut, Lexes, StopsAt, line_at, token_as, token_at, tokens_from}
+use Rattle.fc_lexer.specs.Lexes.{IsAlone, StopsAlone, IsLongest, Cut, Lexes, IsStuckAt, line_at, token_as, token_at, tokens_from}
 use Rattle.fc_lexer.proofs.Longest.{longest, stuck}
 use Rattle.fc_lexer.proofs.OneReading.{never_both, one_list, one_stop}
 use Rattle.fc_values.proofs.Lists.{whole}
@@ -71,7 +71,7 @@ next text at n h e z =
 pub next_piece : (text : List ℕ) (at n : ℕ) → IsNext text at n → is_piece (take (at + n - at) (drop at text)) ≡ true
 next_piece text at n l = ap is_piece (part text at n) ∙ l.longest.piece
 
-pub turn_stuck : (text : List ℕ) (at line n : ℕ) (tokens : List TokenView) → IsReadTo text at line tokens → at < length text → n ≡ size_of (take (length text - at) (drop at text)) → n ≡ 0 → StopsAt text at
+pub turn_stuck : (text : List ℕ) (at line n : ℕ) (tokens : List TokenView) → IsReadTo text at line tokens → at < length text → n ≡ size_of (take (length text - at) (drop at text)) → n ≡ 0 → IsStuckAt text at
 turn_stuck text at line n tokens r h e z = record {
   sizes = r.sizes;
   index = r.index;
@@ -113,7 +113,7 @@ all_read text at line tokens r h = record { sizes = r.sizes; pieces = subst (Cut
 pub is_alone : (text : List ℕ) (tokens : List TokenView) → Lexes text tokens → IsAlone text tokens
 is_alone text tokens l = (λ others m. one_list text others tokens m l, λ i s. never_both text i tokens s l)
 
-pub stops_alone : (text : List ℕ) (i : ℕ) → StopsAt text i → StopsAlone text (fault.At i)
+pub stops_alone : (text : List ℕ) (i : ℕ) → IsStuckAt text i → StopsAlone text (fault.At i)
 stops_alone text i s = (λ tokens l. never_both text i tokens s l, λ j t. one_stop text j i t s)
 
 -- the tokens of a longer list

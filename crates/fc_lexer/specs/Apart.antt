@@ -3,7 +3,7 @@ use Rattle.std.specs.Prelude.{ℕ, suc, ◌≡◌, ◌==◌, true, false, List, 
 use Rattle.fc_lexer.specs.declared.bytes.Class.{Class}
 use Rattle.fc_lexer.specs.declared.bytes.Class.TheVariants.{Space, Digit, Letter, Slash, Dot, Equals, Single, Other}
 use Rattle.fc_values.specs.Names.{is_digit, is_name_byte}
-use Rattle.fc_lexer.specs.Bytes.{is_space, is_in_line, is_rest, begins}
+use Rattle.fc_lexer.specs.Bytes.{is_space, is_in_line, is_rest, begun_class}
 use Rattle.fc_lexer.specs.Kinds.{TokenKind, TokenView, token_kind}
 use Rattle.fc_lexer.specs.Lexes.{Lexes}
 
@@ -50,7 +50,7 @@ view_kind t = t.kind
 abbrev pub StandApart : List Piece → Type 0
 StandApart [] = Unit {0}
 StandApart (p ∷ ps) =
-    (is_rest (begins p.first) p.others ≡ true) × Breaks (begins p.first) p.others (text_of ps) × StandApart ps
+    (is_rest (begun_class p.first) p.others ≡ true) × Breaks (begun_class p.first) p.others (text_of ps) × StandApart ps
 
 -- the text of pieces that stand apart has tokens of their kinds
 abbrev pub ReadsBack : Type 0

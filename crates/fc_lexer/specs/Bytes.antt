@@ -34,8 +34,8 @@ mark_of b =
 
 -- what a byte begins: a run of spaces, a number, a name or word, a comment (`/`), the two dots (`.`), `=` or `=>`,
 -- another mark, or nothing
-unfoldable pub begins : ℕ → Class
-begins b =
+unfoldable pub begun_class : ℕ → Class
+begun_class b =
     if is_space b then Space else
     if is_digit b then Digit else
     if is_letter b then Letter else
@@ -63,4 +63,4 @@ is_rest Other bs = false
 -- the bytes are one token, run of spaces or comment
 abbrev pub is_piece : List ℕ → Bool
 is_piece [] = false
-is_piece (b ∷ bs) = is_rest (begins b) bs
+is_piece (b ∷ bs) = is_rest (begun_class b) bs

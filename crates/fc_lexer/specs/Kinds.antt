@@ -9,7 +9,7 @@ use Rattle.fc_lexer.specs.declared.tokens.Kind.TheVariants as kind
 use Rattle.fc_lexer.specs.declared.tokens.Token.{Token}
 use Rattle.fc_lexer.specs.declared.bytes.Class.{Class}
 use Rattle.fc_lexer.specs.declared.bytes.Class.TheVariants.{Space, Digit, Letter, Slash, Dot, Equals, Single, Other}
-use Rattle.fc_lexer.specs.Bytes.{begins}
+use Rattle.fc_lexer.specs.Bytes.{begun_class}
 use Rattle.fc_values.specs.Names.{word_of}
 use Rattle.fc_lexer.specs.declared.kinds.TheConstants.{CUT}
 
@@ -46,8 +46,8 @@ written [] = 0
 written (d ∷ ds) = (d - 48) * 10 ^ length ds + written ds
 
 -- a number's value: the lesser of the written number and one past the greatest of a program
-abbrev pub number_of : List ℕ → ℕ
-number_of ds = min (written ds) CUT
+abbrev pub number_value : List ℕ → ℕ
+number_value ds = min (written ds) CUT
 
 -- letters that spell a reserved word are this word, and any others a name
 abbrev pub word_or_name_of : List ℕ → TokenKind
@@ -56,7 +56,7 @@ word_or_name_of bs = option_map_or WordOf (word_of bs) (NameOf bs)
 -- the token that a piece is, if it is one, by what its first byte begins
 abbrev pub token_kind_as : Class → List ℕ → List ℕ → Option TokenKind
 token_kind_as Space bs rest = None
-token_kind_as Digit bs rest = Some (NumberOf (number_of bs))
+token_kind_as Digit bs rest = Some (NumberOf (number_value bs))
 token_kind_as Letter bs rest = Some (word_or_name_of bs)
 token_kind_as Slash bs rest = None
 token_kind_as Dot bs rest = Some (MarkOf mark.Dots)
@@ -68,4 +68,4 @@ token_kind_as Other bs rest = None
 -- what a piece is, where it is a token: runs of spaces and comments are none
 abbrev pub token_kind : List ℕ → Option TokenKind
 token_kind [] = None
-token_kind (b ∷ bs) = token_kind_as (begins b) (b ∷ bs) bs
+token_kind (b ∷ bs) = token_kind_as (begun_class b) (b ∷ bs) bs

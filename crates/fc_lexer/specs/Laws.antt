@@ -3,7 +3,7 @@ use Rattle.std.specs.Prelude.{ℕ, ◌≡◌, ◌-◌, ◌<◌, ◌≤◌, ◌�
 use Rattle.fc_lexer.specs.Bytes.{is_piece}
 use Rattle.fc_values.specs.Names.{IsName}
 use Rattle.fc_lexer.specs.Kinds.{NameOf, TokenView, token_kind}
-use Rattle.fc_lexer.specs.Lexes.{Lexes, StopsAt, line_at}
+use Rattle.fc_lexer.specs.Lexes.{Lexes, IsStuckAt, line_at}
 
 -- a text has at most one list of tokens
 abbrev pub OneList : Type 0
@@ -11,15 +11,15 @@ OneList = (text : List ℕ) (ts us : List TokenView) → Lexes text ts → Lexes
 
 -- reading stops at one byte at most
 abbrev pub OneStop : Type 0
-OneStop = (text : List ℕ) (i j : ℕ) → StopsAt text i → StopsAt text j → i ≡ j
+OneStop = (text : List ℕ) (i j : ℕ) → IsStuckAt text i → IsStuckAt text j → i ≡ j
 
 -- a text at which reading stops has no list of tokens
 abbrev pub NeverBoth : Type 0
-NeverBoth = (text : List ℕ) (i : ℕ) (ts : List TokenView) → StopsAt text i → Lexes text ts → ⊥
+NeverBoth = (text : List ℕ) (i : ℕ) (ts : List TokenView) → IsStuckAt text i → Lexes text ts → ⊥
 
 -- reading stops at a byte of each text that has no list of tokens
 abbrev pub AlwaysOne : Type 0
-AlwaysOne = (text : List ℕ) → ((ts : List TokenView) × Lexes text ts) ⊎ ((i : ℕ) × StopsAt text i)
+AlwaysOne = (text : List ℕ) → ((ts : List TokenView) × Lexes text ts) ⊎ ((i : ℕ) × IsStuckAt text i)
 
 -- the bytes are runs of spaces and comments, one after the other
 pub data Blank : List ℕ → Type 0 where

@@ -47,7 +47,7 @@ pub record Lexes (text : List ℕ) (tokens : List TokenView) : Type 0 where
   pub tokens_are : tokens ≡ tokens_from text 0 sizes
 
 -- reading from the front reaches the byte at this index, and nothing begins there
-pub record StopsAt (text : List ℕ) (i : ℕ) : Type 0 where
+pub record IsStuckAt (text : List ℕ) (i : ℕ) : Type 0 where
   pub sizes : List ℕ
   pub index : sum sizes ≡ i
   pub pieces : Cut text sizes (drop i text)
@@ -55,14 +55,16 @@ pub record StopsAt (text : List ℕ) (i : ℕ) : Type 0 where
 
 -- no other list is one of these tokens, and reading reaches no byte at which nothing begins
 abbrev pub IsAlone : List ℕ → List TokenView → Type 0
-IsAlone text tokens = ((others : List TokenView) → Lexes text others → others ≡ tokens) × ((i : ℕ) → StopsAt text i → ⊥)
+IsAlone text tokens =
+    ((others : List TokenView) → Lexes text others → others ≡ tokens) × ((i : ℕ) → IsStuckAt text i → ⊥)
 
 -- a fault at a byte: reading reaches it, and nothing begins there
 abbrev pub Stops : List ℕ → LexFault → Type 0
 Stops text fault.Memory = Unit {0}
-Stops text (fault.At i) = StopsAt text i
+Stops text (fault.At i) = IsStuckAt text i
 
 -- a fault at a byte: the text has no list of tokens, and reading stops at no other byte
 abbrev pub StopsAlone : List ℕ → LexFault → Type 0
 StopsAlone text fault.Memory = Unit {0}
-StopsAlone text (fault.At i) = ((tokens : List TokenView) → Lexes text tokens → ⊥) × ((j : ℕ) → StopsAt text j → j ≡ i)
+StopsAlone text (fault.At i) =
+    ((tokens : List TokenView) → Lexes text tokens → ⊥) × ((j : ℕ) → IsStuckAt text j → j ≡ i)

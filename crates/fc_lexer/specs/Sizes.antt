@@ -4,7 +4,7 @@ use Rattle.std.specs.List.{prefix_len}
 use Rattle.fc_lexer.specs.declared.bytes.Class.{Class}
 use Rattle.fc_lexer.specs.declared.bytes.Class.TheVariants.{Space, Digit, Letter, Slash, Dot, Equals, Single, Other}
 use Rattle.fc_values.specs.Names.{is_digit, is_name_byte}
-use Rattle.fc_lexer.specs.Bytes.{is_space, is_in_line, begins}
+use Rattle.fc_lexer.specs.Bytes.{is_space, is_in_line, begun_class}
 
 -- of `/` and these bytes
 abbrev pub comment_size : List ℕ → ℕ
@@ -35,4 +35,4 @@ size_as Other bs = 0
 -- the size of the longest piece that begins here, or 0
 abbrev pub size_of : List ℕ → ℕ
 size_of [] = 0
-size_of (b ∷ bs) = size_as (begins b) bs
+size_of (b ∷ bs) = size_as (begun_class b) bs

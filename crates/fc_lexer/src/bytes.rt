@@ -3,7 +3,7 @@
 ghost use Rattle.std.specs.Prelude.{◌≡◌, ◌≤◌, length};
 ghost use Rattle.std.specs.List.{prefix_len};
 ghost use Rattle.fc_values.specs.Names.{is_digit as digit_test, is_name_byte as name_byte_test};
-ghost use Rattle.fc_lexer.specs.Bytes.{begins, is_in_line, is_space as space_test, mark_of};
+ghost use Rattle.fc_lexer.specs.Bytes.{begun_class, is_in_line, is_space as space_test, mark_of};
 
 use crate::tokens::Mark;
 use fc_values::{is_digit, is_letter, is_name_byte};
@@ -60,9 +60,9 @@ fn single(byte: u8) -> Class
 }
 
 /// What a byte begins.
-#[tactic(auto, unfolding(crate::specs::Bytes::begins))]
+#[tactic(auto, unfolding(crate::specs::Bytes::begun_class))]
 pub fn class_of(byte: u8) -> Class
-    ensures { result ≡ begins byte }
+    ensures { result ≡ begun_class byte }
 {
     if is_space(byte) {
         Class::Space

@@ -4,7 +4,7 @@ ghost use Rattle.std.specs.Prelude.{◌≡◌, IfOk, option_map, true};
 ghost use Rattle.std.specs.List.{list_all};
 ghost use Rattle.fc_values.specs.Names.{is_digit};
 ghost use Rattle.fc_lexer.specs.Bytes.{is_piece};
-ghost use Rattle.fc_lexer.specs.Kinds.{kind_view, number_of, token_kind, word_or_name_of};
+ghost use Rattle.fc_lexer.specs.Kinds.{kind_view, number_value, token_kind, word_or_name_of};
 
 use crate::bytes::{Class, class_of};
 use crate::tokens::{Kind, Mark};
@@ -17,7 +17,7 @@ const CUT: u32 = 1_000_001;
 // The lesser of the written number and the cut.
 fn number(digits: &[u8]) -> u32
     requires { list_all is_digit digits.now ≡ true }
-    ensures { result ≡ number_of digits.now }
+    ensures { result ≡ number_value digits.now }
 {
     let mut value = 0;
     for digit in digits {

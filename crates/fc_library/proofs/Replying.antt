@@ -1,9 +1,9 @@
 -- A reply keeps what its answer promises.
 use Rattle.std.proofs.Common.{ℕ, ◌≡◌, List, Option, None, refl, subst}
 use Rattle.command_words.specs.declared.commands.Command.{Command}
-use Rattle.fc_inputs.specs.declared.refusal.Refusal.TheVariants as refusal
-use Rattle.fc_inputs.specs.Answers.{AnswerValue}
-use Rattle.fc_inputs.specs.Causes.{Plainly, Refused, answer_of}
+use Rattle.command_frame.specs.declared.refusal.Refusal.TheVariants as refusal
+use Rattle.command_frame.specs.Answers.{AnswerValue}
+use Rattle.command_frame.specs.Causes.{Plainly, Refused, answer_of}
 use Rattle.fc_answers.specs.Answers.{Answers}
 use Rattle.fc_answers.specs.Headline.{AnswersKeep}
 use Rattle.fc_answers.specs.Laws.{AnswerStatuses}

@@ -2,7 +2,7 @@
 use Rattle.std.specs.Prelude.{ℕ, ◌≡◌, ◌≤◌, nat_le, if◌then◌else◌, List, ◌++◌, length, drop, Option, Some, None}
 use Rattle.command_words.specs.declared.commands.Command.{Command}
 use Rattle.command_words.specs.declared.commands.Command.TheVariants as command
-use Rattle.fc_inputs.specs.Answers.{AnswerValue}
+use Rattle.command_frame.specs.Answers.{AnswerValue}
 use Rattle.fc_answers.specs.Answers.{Answers}
 use Rattle.fc_answers.specs.Headline.{IsKept}
 use Rattle.fc_library.specs.Words.{Asks}

@@ -1,14 +1,14 @@
 //! The reply to words and an input.
 ghost use Rattle.std.specs.Prelude.{◌≡◌, IfOk, IsErrOf};
 ghost use Rattle.fc_answers.specs.Answers.{Answers};
-ghost use Rattle.fc_inputs.specs.Code.{value_of};
+ghost use Rattle.command_frame.specs.Code.{value_of};
 ghost use Rattle.fc_library.specs.Replies.{AskForThreads, IsReply, IsThreaded};
 ghost use Rattle.fc_library.specs.declared.replies.Failure.TheVariants as failure;
 
 use crate::words::asked;
+use command_frame::{Answer, Refusal, refuse};
 use command_words::Command;
 use fc_answers::{answer_quiet, answer_statuses, answers_keep};
-use fc_inputs::{Answer, Refusal, refuse};
 use fc_values::Memory;
 use std::alloc::Global;
 

@@ -10,8 +10,8 @@ use Rattle.firing_core.specs.Cores.{Core, IsGood}
 use Rattle.firing_core.specs.Books.{in_flight, ends_of}
 use Rattle.firing_core.specs.Laws.{StepsKeepGood, RunsKeepGood, FaultlessStep, LogsLeadToOne}
 use Rattle.message_links.specs.MailCores.{MailCore, MailEntryValue, MailRun, IsMailStart}
-use Rattle.scramble.specs.Words.{words_of}
-use Rattle.mail_drive.specs.Laws.{nothing, DrivenLeads}
+use Rattle.scramble.specs.Words.{stream_of}
+use Rattle.mail_drive.specs.Laws.{no_posts, DrivenLeads}
 use Rattle.mail_book.specs.MailViews.{quiet}
 use Rattle.mail_book.specs.MailLaws.{MailLogsLeadToOne}
 use Rattle.mail_count.specs.Laws.{IsGreatestMail, SomeGreatestMail}
@@ -19,12 +19,12 @@ use Rattle.mail_book.proofs.QuietStarts.{quiet_start}
 use Rattle.net_json.specs.Scenes.{SceneValue}
 use Rattle.report.specs.Texts.{values_text}
 use Rattle.report.specs.Verdicts.{rounds_text, verdict_text}
-use Rattle.fc_inputs.specs.declared.refusal.Refusal.TheVariants as refusal
-use Rattle.fc_inputs.specs.Agreement.{Agree}
-use Rattle.fc_inputs.specs.Answers.{AnswerValue, plain}
-use Rattle.fc_inputs.specs.Causes.{Plainly, Judged, Accepted, Refused}
-use Rattle.fc_inputs.specs.Starts.{start_of}
-use Rattle.fc_inputs.proofs.Agreeing.{both_plain, both_refused}
+use Rattle.command_frame.specs.declared.refusal.Refusal.TheVariants as refusal
+use Rattle.command_frame.specs.Agreement.{Agree}
+use Rattle.command_frame.specs.Answers.{AnswerValue, plain}
+use Rattle.command_frame.specs.Causes.{Plainly, Judged, Accepted, Refused}
+use Rattle.command_frame.specs.Starts.{start_of}
+use Rattle.command_frame.proofs.Agreeing.{both_plain, both_refused}
 use Rattle.fc_mail.specs.Drives.{messages, driven_log, DrivesWithin, DrivesBy}
 use Rattle.fc_mail.specs.declared.driven.TheConstants.{MOST_MESSAGES}
 use Rattle.fc_mail.proofs.Driving.{still}
@@ -43,7 +43,7 @@ module _ (cores : LogsLeadToOne) (mails : MailLogsLeadToOne) (number : ℕ) (P :
       let begins : IsMailStart (unfolding_of P) (quiet h.core) = quiet_start (unfolding_of P) h.core (runs P (start_of s) h.core (entries_of (ends_of (in_flight (start_of s)))) is good h.settles) in
       let leads : MailRun (unfolding_of P) 0 (quiet h.core) log g.last = subst (λ (c : Core). MailRun (unfolding_of P) 0 (quiet c) log g.last) core g.leads in
       let last : h.last ≡ g.last = mails P (quiet h.core) h.last g.last log is begins h.leads leads in
-      let count : h.count ≡ g.count = one_number s.net nothing log h.count g.count h.counted g.counted in
+      let count : h.count ≡ g.count = one_number s.net no_posts log h.count g.count h.counted g.counted in
       both_plain false j k 0 (written g.last g.count)
       (h.is ∙ ap₂ (λ (m : MailCore) n. Accepted (plain 0 (written m n))) last count) g.is
     where
@@ -62,7 +62,7 @@ module _ (free : FaultlessStep) (keeps : StepsKeepGood) (leads : DrivenLeads) (g
   some_within false rounds =
       let down = landed free keeps P is (start_of s) good in
       let begins : IsMailStart (unfolding_of P) (quiet down.core) = quiet_start (unfolding_of P) down.core down.good in
-      let run = leads P rounds (words_of number) (quiet down.core) is begins (still down.core down.rests) in
+      let run = leads P rounds (stream_of number) (quiet down.core) is begins (still down.core down.rests) in
       let g = greatest (unfolding_of P) (quiet down.core) (driven_log number s.net rounds) begins in (
         Accepted (plain 0 (verdict_text (verdict.Yes rounds) ++ values_text run.0.core ++ rounds_text g.0)),
         record {
@@ -71,7 +71,7 @@ module _ (free : FaultlessStep) (keeps : StepsKeepGood) (leads : DrivenLeads) (g
           last = run.0;
           leads = subst (λ (n : Network). MailRun (unfolding_of P) 0 (quiet down.core) (driven_log number n rounds) run.0) down.net run.1;
           count = g.0;
-          counted = subst (λ (n : Network). IsGreatestMail n nothing (driven_log number s.net rounds) g.0) down.net g.1;
+          counted = subst (λ (n : Network). IsGreatestMail n no_posts (driven_log number s.net rounds) g.0) down.net g.1;
           is = refl;
         },
       )

@@ -12,11 +12,11 @@ use Rattle.message_links.specs.MailRounds.{posts_of, HasMailRounds}
 use Rattle.message_links.specs.declared.entries.MailFault.{MailFault}
 use Rattle.mail_laws.specs.Laws.{MailStabilises}
 use Rattle.message_links.proofs.MailRuns.{run_net}
-use Rattle.scramble.specs.Words.{words_of}
+use Rattle.scramble.specs.Words.{stream_of}
 use Rattle.session.specs.Promises.{HoldsField, field_on}
 use Rattle.session.proofs.ShownFields.{values_held}
 use Rattle.mail_drive.specs.Drives.{driven}
-use Rattle.mail_drive.specs.Laws.{nothing, IsStill, DrivenLeads}
+use Rattle.mail_drive.specs.Laws.{no_posts, IsStill, DrivenLeads}
 use Rattle.mail_book.specs.MailLaws.{MailLogsLeadOrFail}
 use Rattle.mail_book.specs.MailReplays.{FailsMailAt}
 use Rattle.mail_book.specs.MailViews.{quiet}
@@ -26,9 +26,9 @@ use Rattle.net_json.specs.Scenes.{SceneValue}
 use Rattle.net_json.specs.SceneCode.{value_of_scene}
 use Rattle.report.specs.Texts.{values_text, field_text}
 use Rattle.report.specs.Verdicts.{rounds_text, verdict_text}
-use Rattle.fc_inputs.specs.Answers.{AnswerValue, plain}
-use Rattle.fc_inputs.specs.Causes.{Accepted}
-use Rattle.fc_inputs.specs.Starts.{start_of}
+use Rattle.command_frame.specs.Answers.{AnswerValue, plain}
+use Rattle.command_frame.specs.Causes.{Accepted}
+use Rattle.command_frame.specs.Starts.{start_of}
 use Rattle.fc_mail.specs.Code.{IsSettledOf, ShowsBehind}
 use Rattle.fc_mail.specs.Drives.{Settles, driven_log, WritesDriven}
 
@@ -61,30 +61,30 @@ still c rests = record { landed = rests; empty = λ a b. refl }
 -- ---- the driven log of a number
 
 module _ (leads : DrivenLeads) (either : MailLogsLeadOrFail) (number rounds : ℕ) (P : Program) (is : IsProgram P) (s : SceneValue) (start : MailCore)
-    (q : IsSettledOf (unfolding_of P) s start) (begins : IsMailStart (unfolding_of P) start) (log : List MailEntryValue) (made : log ≡ driven start.core.net rounds (words_of number)) where
+    (q : IsSettledOf (unfolding_of P) s start) (begins : IsMailStart (unfolding_of P) start) (log : List MailEntryValue) (made : log ≡ driven start.core.net rounds (stream_of number)) where
   -- each of its entries has a step
   pub no_stop : (i : ℕ) (why : MailFault) → FailsMailAt (unfolding_of P) start log i why → ⊥
   no_stop i why fails =
       let calm : IsStill start = subst IsStill (sym q.is) (still q.core q.rests) in
-      let l = leads P rounds (words_of number) start is begins calm in
+      let l = leads P rounds (stream_of number) start is begins calm in
       either P start l.0 log i why is begins (subst (λ es. MailRun (unfolding_of P) 0 start es l.0) (sym made) l.1) fails
 
 module _ (number rounds : ℕ) (U : Unfolding) (s : SceneValue) (last : MailCore) (old new : List ℕ) (r : AnswerValue) where
   abbrev StepsShown : MailCore → List MailEntryValue → Type 0
-  StepsShown start log = MailRun U 0 start log last → log ≡ driven start.core.net rounds (words_of number) → ShowsBehind start.core.net (posts_of start) log last.core old new
+  StepsShown start log = MailRun U 0 start log last → log ≡ driven start.core.net rounds (stream_of number) → ShowsBehind start.core.net (posts_of start) log last.core old new
       → old ≡ verdict_text (verdict.Yes rounds) → r ≡ plain 0 new → WritesDriven number U s rounds (Accepted r)
 
   from_quiet : (core : Core) → Settles U s core → (log : List MailEntryValue) → StepsShown (quiet core) log
   from_quiet core settles log run made shows line is =
       let net : core.net ≡ s.net = settled_net U s core settles in
-      let same : log ≡ driven_log number s.net rounds = made ∙ ap (λ (n : Network). driven n rounds (words_of number)) net in
+      let same : log ≡ driven_log number s.net rounds = made ∙ ap (λ (n : Network). driven n rounds (stream_of number)) net in
       record {
         core = core;
         settles = settles;
         last = last;
         leads = subst (λ es. MailRun U 0 (quiet core) es last) same run;
         count = shows.rounds;
-        counted = subst (λ l. IsGreatestMail s.net nothing l shows.rounds) same (subst (λ (n : Network). IsGreatestMail n nothing log shows.rounds) net shows.counted);
+        counted = subst (λ l. IsGreatestMail s.net no_posts l shows.rounds) same (subst (λ (n : Network). IsGreatestMail n no_posts log shows.rounds) net shows.counted);
         is = ap (λ x. Accepted x) (is ∙ ap (plain 0)
             (shows.is ∙ ap (λ l. (l ++ values_text last.core) ++ rounds_text shows.rounds) line));
       }
@@ -95,7 +95,7 @@ module _ (number rounds : ℕ) (U : Unfolding) (s : SceneValue) (last : MailCore
 -- ---- the parts that the code has
 
 pub written : (number rounds : ℕ) (P Q : Program) (scene : Scene) (start book last : MailCore) (V : Unfolding) (log booked : List MailEntryValue) (old new : List ℕ) (r : AnswerValue)
-    → P ≡ Q → IsSettledOf (unfolding_of P) (value_of_scene (unfolding_of P) scene) start → V ≡ unfolding_of P → book ≡ start → log ≡ driven start.core.net rounds (words_of number) → booked ≡ log
+    → P ≡ Q → IsSettledOf (unfolding_of P) (value_of_scene (unfolding_of P) scene) start → V ≡ unfolding_of P → book ≡ start → log ≡ driven start.core.net rounds (stream_of number) → booked ≡ log
     → MailRun V 0 start log last → ShowsBehind book.core.net (posts_of book) booked last.core old new → old ≡ verdict_text (verdict.Yes rounds) → r ≡ plain 0 new
     → WritesDriven number (unfolding_of Q) (value_of_scene (unfolding_of Q) scene) rounds (Accepted r)
 written number rounds P Q scene start book last V log booked old new r p q v b made l run shows line is =

@@ -14,21 +14,21 @@ use Rattle.mail_laws.specs.Laws.{MailStabilises, YesStabilisesMail}
 use Rattle.message_links.specs.MailCores.{MailEntryValue, IsMailStart}
 use Rattle.message_links.specs.MailRounds.{HasMailRounds}
 use Rattle.message_links.proofs.MailRuns.{fewer_rounds}
-use Rattle.scramble.specs.Words.{words_of}
-use Rattle.mail_drive.specs.Laws.{DrivenRounds, NoMoreRounds, nothing}
+use Rattle.scramble.specs.Words.{stream_of}
+use Rattle.mail_drive.specs.Laws.{DrivenRounds, NoMoreRounds, no_posts}
 use Rattle.mail_lines.specs.MailLines.{mail_log}
 use Rattle.edit_commands.specs.LineByLine.{Lines, AllLines, StopsAt}
 use Rattle.mail_book.specs.MailViews.{quiet}
 use Rattle.report.specs.Texts.{values_text}
 use Rattle.report.specs.Verdicts.{rounds_text, verdict_text}
-use Rattle.fc_inputs.specs.Answers.{AnswerValue}
-use Rattle.fc_inputs.specs.Causes.{Judged, Accepted}
-use Rattle.fc_inputs.specs.Inputs.{InputOf, ReadsInput}
-use Rattle.fc_inputs.specs.Starts.{InputsAreRead, start_of}
+use Rattle.command_frame.specs.Answers.{AnswerValue}
+use Rattle.command_frame.specs.Causes.{Judged, Accepted}
+use Rattle.command_frame.specs.Inputs.{InputOf, ReadsInput}
+use Rattle.command_frame.specs.Starts.{InputsAreRead, start_of}
 use Rattle.fc_mail.specs.Drives.{messages, driven_log, DrivesBy, DrivesWithin, Settles, WritesDriven}
 use Rattle.fc_mail.specs.declared.driven.TheConstants.{MOST_MESSAGES}
 use Rattle.fc_mail.specs.Promises.{DrivenMailKeepsYes, MailKeepsYes}
-use Rattle.fc_mail.specs.Mails.{Mailed, MailsLines, ShowsMail, StopsMail, entries_in}
+use Rattle.fc_mail.specs.Mails.{Mailed, MailsLines, ShowsMail, StopsMail, mail_entries_in}
 use Rattle.fc_mail.proofs.Driving.{field_values, held, settled_net}
 use Rattle.mail_book.proofs.QuietStarts.{quiet_start}
 
@@ -72,8 +72,8 @@ module _ (laws : InputsAreRead) (law : YesStabilisesMail) (program network log :
   shown es lines h =
       let begins = start laws program network i reads in
       let text : r.text ≡ values_text h.last.core ++ rounds_text h.rounds = ap (λ (x : AnswerValue). x.text) (accepted_same r _ h.is) in
-      let rounds : (k : ℕ) → k ≤ h.rounds → HasMailRounds i.1.net 0 nothing (entries_in es) k =
-      λ k few. fewer_rounds i.1.net 0 nothing (entries_in es) k h.rounds few h.counted.has in
+      let rounds : (k : ℕ) → k ≤ h.rounds → HasMailRounds i.1.net 0 no_posts (mail_entries_in es) k =
+      λ k few. fewer_rounds i.1.net 0 no_posts (mail_entries_in es) k h.rounds few h.counted.has in
       record {
         unfolded = i.0;
         scene = i.1;
@@ -87,9 +87,9 @@ module _ (laws : InputsAreRead) (law : YesStabilisesMail) (program network log :
         writes = text;
         stabilises = stable;
         holds = λ k said few.
-            held i.0 i.1.net k (stable k said) (quiet (start_of i.1)) h.last (entries_in es) begins refl h.leads (rounds k few);
+            held i.0 i.1.net k (stable k said) (quiet (start_of i.1)) h.last (mail_entries_in es) begins refl h.leads (rounds k few);
         shows = λ k said few. text ∙ ap (λ v. v ++ rounds_text h.rounds)
-            (field_values i.0 i.1.net k (stable k said) (quiet (start_of i.1)) h.last (entries_in es) begins refl h.leads (rounds k few));
+            (field_values i.0 i.1.net k (stable k said) (quiet (start_of i.1)) h.last (mail_entries_in es) begins refl h.leads (rounds k few));
       }
 
   either : (es : Mailed) → mail_log log ≡ AllLines es
@@ -115,7 +115,7 @@ module _ (laws : InputsAreRead) (law : YesStabilisesMail) (runs : RunsKeepGood) 
       let begins : IsMailStart i.0 (quiet h.core) = quiet_start i.0 h.core (settled_good laws program network i reads runs h.core h.settles) in
       let same : h.core.net ≡ i.1.net = settled_net i.0 i.1 h.core h.settles in
       let there : IsNetwork i.1.net = net laws program network i reads in
-      let has : HasMailRounds i.1.net 0 nothing log k = covers i.1.net k (words_of number) there in
+      let has : HasMailRounds i.1.net 0 no_posts log k = covers i.1.net k (stream_of number) there in
       let text : r.text ≡ verdict_text (verdict.Yes k) ++ values_text h.last.core ++ rounds_text h.count = ap (λ (x : AnswerValue). x.text) (accepted_same r _ h.is) in
       let enough : k ≤ h.count = h.counted.greatest k has in
       record {
@@ -131,7 +131,7 @@ module _ (laws : InputsAreRead) (law : YesStabilisesMail) (runs : RunsKeepGood) 
         count = h.count;
         counted = h.counted;
         enough = enough;
-        no_more = λ links. let few = most i.1.net k h.count (words_of number) there links h.counted.has in omega arith;
+        no_more = λ links. let few = most i.1.net k h.count (stream_of number) there links h.counted.has in omega arith;
         writes = text;
         stabilises = m;
         holds = held i.0 i.1.net k m (quiet h.core) h.last log begins same h.leads has;

@@ -16,13 +16,13 @@ use Rattle.mail_book.specs.MailViews.{quiet}
 use Rattle.mail_count.specs.Laws.{SomeGreatestMail}
 use Rattle.edit_commands.specs.LineByLine.{Lines, AllLines, StopsAt}
 use Rattle.net_json.specs.Scenes.{SceneValue}
-use Rattle.fc_inputs.specs.declared.refusal.LineFault.TheVariants as line_fault
-use Rattle.fc_inputs.specs.Answers.{AnswerValue}
-use Rattle.fc_inputs.specs.Causes.{Judged, Accepted}
-use Rattle.fc_inputs.specs.Owing.{HasStatus, IsZero}
-use Rattle.fc_inputs.specs.Starts.{InputsAreRead, start_of}
-use Rattle.fc_inputs.proofs.Owed.{OwesScenes, plain_status, refused_status, texts_owe, three_owe, two_owe, zero_low}
-use Rattle.fc_inputs.proofs.RefusalStatuses.{by_four, log_status}
+use Rattle.command_frame.specs.declared.refusal.LineFault.TheVariants as line_fault
+use Rattle.command_frame.specs.Answers.{AnswerValue}
+use Rattle.command_frame.specs.Causes.{Judged, Accepted}
+use Rattle.command_frame.specs.Owing.{HasStatus, IsZero}
+use Rattle.command_frame.specs.Starts.{InputsAreRead, start_of}
+use Rattle.command_frame.proofs.Owed.{OwesScenes, plain_status, refused_status, texts_owe, three_owe, two_owe, zero_low}
+use Rattle.command_frame.proofs.RefusalStatuses.{by_four, log_status}
 use Rattle.fc_mail.specs.declared.driven.TheConstants.{MOST_MESSAGES}
 use Rattle.fc_mail.specs.Drives.{DrivesBy, DrivesMail, DrivesScene, DrivesWithin, messages}
 use Rattle.fc_mail.specs.Mails.{Mails, MailsLines, MailsScene}

@@ -14,19 +14,19 @@ use Rattle.mail_count.specs.Laws.{IsGreatestMail}
 use Rattle.net_json.specs.Scenes.{SceneValue}
 use Rattle.report.specs.Texts.{values_text}
 use Rattle.report.specs.Verdicts.{rounds_text}
-use Rattle.fc_inputs.specs.Stops.{StopsFor, stop_at}
-use Rattle.fc_inputs.specs.Answers.{AnswerValue, plain}
-use Rattle.fc_inputs.specs.Refusals.{log_refusal}
-use Rattle.fc_inputs.specs.Causes.{Cause, Plainly, Judged, Accepted, Refused}
-use Rattle.fc_inputs.specs.Inputs.{ReadsInput}
-use Rattle.fc_inputs.specs.Starts.{start_of}
-use Rattle.fc_mail.specs.Mails.{Mailed, entries_in, MailsLines, Mails}
+use Rattle.command_frame.specs.Stops.{StopsFor, stop_at}
+use Rattle.command_frame.specs.Answers.{AnswerValue, plain}
+use Rattle.command_frame.specs.Refusals.{log_refusal}
+use Rattle.command_frame.specs.Causes.{Cause, Plainly, Judged, Accepted, Refused}
+use Rattle.command_frame.specs.Inputs.{ReadsInput}
+use Rattle.command_frame.specs.Starts.{start_of}
+use Rattle.fc_mail.specs.Mails.{Mailed, mail_entries_in, MailsLines, Mails}
 use Rattle.fc_mail.specs.Code.{IsFaultyMail, IsStoppedMail, mail_stop, MailWithin}
 use Rattle.fc_mail.proofs.MailEndings.{told}
 
 -- ---- entries with the numbers of their lines
 
-pub numbered_entries : (ks : List ℕ) (es : List MailEntryValue) → length ks ≡ length es → entries_in (numbered ks es) ≡ es
+pub numbered_entries : (ks : List ℕ) (es : List MailEntryValue) → length ks ≡ length es → mail_entries_in (numbered ks es) ≡ es
 numbered_entries [] [] h = refl
 numbered_entries [] (e ∷ es) h = absurd (omega arith)
 numbered_entries (k ∷ ks) [] h = absurd (omega arith)
@@ -61,7 +61,7 @@ fails_within U c log (replay.At index why) h =
     omega arith
 fails_within U c log replay.Memory h = tt
 
-pub stops : (U : Unfolding) (start : MailCore) (log : Mailed) (lines : List ℕ) (f : MailReplay) → lines ≡ map (λ (l : ℕ × MailEntryValue). l.0) log → FailsMail U start (entries_in log) f
+pub stops : (U : Unfolding) (start : MailCore) (log : Mailed) (lines : List ℕ) (f : MailReplay) → lines ≡ map (λ (l : ℕ × MailEntryValue). l.0) log → FailsMail U start (mail_entries_in log) f
     → StopsFor (IsStoppedMail U start log) (mail_stop lines f)
 stops U start log lines replay.Memory q h = tt
 stops U start log lines (replay.At index why) q h =
@@ -90,8 +90,8 @@ module _ (program network log : List ℕ) (U : Unfolding) (s : SceneValue) (read
     stopped_log cause h = ends_in (Refused cause) (subst (λ l. MailsLines U (quiet (start_of s)) l (Refused cause)) (sym all_lines)
         (inr (record { index = h.index; fault = h.fault; fails = h.fails; why = h.why; told = h.told; is = ap (λ c. Refused c) h.is })))
 
-    pub shown_log : (r : AnswerValue) (last : MailCore) (rounds : ℕ) → MailRun U 0 (quiet (start_of s)) (entries_in es) last
-        → IsGreatestMail (quiet (start_of s)).core.net (posts_of (quiet (start_of s))) (entries_in es) rounds
+    pub shown_log : (r : AnswerValue) (last : MailCore) (rounds : ℕ) → MailRun U 0 (quiet (start_of s)) (mail_entries_in es) last
+        → IsGreatestMail (quiet (start_of s)).core.net (posts_of (quiet (start_of s))) (mail_entries_in es) rounds
         → r ≡ plain 0 (values_text last.core ++ rounds_text rounds) → Mails program network log (Accepted r)
     shown_log r last rounds leads counted is_r = ends_in (Accepted r) (subst (λ l. MailsLines U (quiet (start_of s)) l (Accepted r)) (sym all_lines)
         (inl (record { last = last; leads = leads; rounds = rounds; counted = counted; is = ap (λ x. Accepted x) is_r })))

@@ -15,16 +15,16 @@ use Rattle.mail_book.specs.MailViews.{mail_of, quiet}
 use Rattle.mail_count.specs.Laws.{IsGreatestMail}
 use Rattle.report.specs.Texts.{values_text}
 use Rattle.report.specs.Verdicts.{rounds_text}
-use Rattle.fc_inputs.specs.declared.refusal.LineFault.{LineFault}
-use Rattle.fc_inputs.specs.declared.refusal.LineFault.TheVariants.{Form}
-use Rattle.fc_inputs.specs.declared.stop.Stop.{Stop}
-use Rattle.fc_inputs.specs.declared.stop.Stop.TheVariants as stop
-use Rattle.fc_inputs.specs.Causes.{Cause, Plainly}
-use Rattle.fc_inputs.specs.Refusals.{log_refusal}
-use Rattle.fc_inputs.specs.Stops.{stop_at}
+use Rattle.command_frame.specs.declared.refusal.LineFault.{LineFault}
+use Rattle.command_frame.specs.declared.refusal.LineFault.TheVariants.{Form}
+use Rattle.command_frame.specs.declared.stop.Stop.{Stop}
+use Rattle.command_frame.specs.declared.stop.Stop.TheVariants as stop
+use Rattle.command_frame.specs.Causes.{Cause, Plainly}
+use Rattle.command_frame.specs.Refusals.{log_refusal}
+use Rattle.command_frame.specs.Stops.{stop_at}
 use Rattle.net_json.specs.Scenes.{SceneValue}
 use Rattle.fc_mail.specs.Drives.{Settles}
-use Rattle.fc_mail.specs.Mails.{Mailed, entries_in, line_at, mail_line_fault}
+use Rattle.fc_mail.specs.Mails.{Mailed, mail_entries_in, line_of_entry, mail_line_fault}
 
 -- behind a text, the values of a core and the greatest number of rounds of a mail log
 pub record ShowsBehind (N : Network) (p : Posts) (log : List MailEntryValue) (last : Core) (old new : List ℕ)
@@ -55,10 +55,10 @@ pub record IsMailed (U : Unfolding) (start : MailCore) (log : List MailEntryValu
 pub record IsStoppedMail (U : Unfolding) (start : MailCore) (log : Mailed) (cause : Cause) : Type 0 where
   pub index : ℕ
   pub fault : MailFault
-  pub fails : FailsMailAt U start (entries_in log) index fault
+  pub fails : FailsMailAt U start (mail_entries_in log) index fault
   pub why : LineFault
   pub told : mail_line_fault fault ≡ Some why
-  pub is : cause ≡ Plainly (log_refusal (line_at log index) why)
+  pub is : cause ≡ Plainly (log_refusal (line_of_entry log index) why)
 
 -- the stop of a mail log that isn't replayed, from the numbers of its lines
 abbrev pub mail_stop : List ℕ → MailReplay → Stop

@@ -1,8 +1,8 @@
 -- What `mail` makes of the sections of an input: it takes a mail log, and with a number none.
 use Rattle.std.specs.Prelude.{ℕ, List, Option, Some, None}
-use Rattle.fc_inputs.specs.Answers.{AnswerValue}
-use Rattle.fc_inputs.specs.Causes.{Judged}
-use Rattle.fc_inputs.specs.Sections.{WithThree, WithTwo}
+use Rattle.command_frame.specs.Answers.{AnswerValue}
+use Rattle.command_frame.specs.Causes.{Judged}
+use Rattle.command_frame.specs.Sections.{WithThree, WithTwo}
 use Rattle.fc_mail.specs.Drives.{DrivesMail}
 use Rattle.fc_mail.specs.Mails.{Mails}
 

@@ -11,19 +11,19 @@ use Rattle.firing_core.specs.Entries.{entries_of}
 use Rattle.firing_core.specs.Cores.{Core, Run}
 use Rattle.firing_core.specs.Books.{in_flight, ends_of}
 use Rattle.message_links.specs.MailCores.{MailCore, MailEntryValue, MailRun}
-use Rattle.scramble.specs.Words.{words_of}
+use Rattle.scramble.specs.Words.{stream_of}
 use Rattle.mail_drive.specs.Drives.{driven}
-use Rattle.mail_drive.specs.Laws.{nothing}
+use Rattle.mail_drive.specs.Laws.{no_posts}
 use Rattle.mail_book.specs.MailViews.{quiet}
 use Rattle.mail_count.specs.Laws.{IsGreatestMail}
 use Rattle.net_json.specs.Scenes.{SceneValue}
 use Rattle.report.specs.Texts.{values_text}
 use Rattle.report.specs.Verdicts.{rounds_text, verdict_text}
-use Rattle.fc_inputs.specs.declared.refusal.Refusal.TheVariants as refusal
-use Rattle.fc_inputs.specs.Answers.{AnswerValue, plain}
-use Rattle.fc_inputs.specs.Causes.{Plainly, Judged, Accepted, Refused}
-use Rattle.fc_inputs.specs.Inputs.{OfScene}
-use Rattle.fc_inputs.specs.Starts.{start_of}
+use Rattle.command_frame.specs.declared.refusal.Refusal.TheVariants as refusal
+use Rattle.command_frame.specs.Answers.{AnswerValue, plain}
+use Rattle.command_frame.specs.Causes.{Plainly, Judged, Accepted, Refused}
+use Rattle.command_frame.specs.Inputs.{OfScene}
+use Rattle.command_frame.specs.Starts.{start_of}
 use Rattle.fc_mail.specs.declared.driven.TheConstants.{MOST_MESSAGES}
 
 -- so many rounds, times the sum of the devices and twice the links
@@ -36,7 +36,7 @@ Settles U s core = Run U (start_of s) (entries_of (ends_of (in_flight (start_of 
 
 -- the mail log that is made from a number, of so many driven rounds
 abbrev pub driven_log : ℕ → Network → ℕ → List MailEntryValue
-driven_log number N rounds = driven N rounds (words_of number)
+driven_log number N rounds = driven N rounds (stream_of number)
 
 -- the run of so many driven rounds: the values of the core to which they lead, and their greatest number of rounds
 pub record WritesDriven (number : ℕ) (U : Unfolding) (s : SceneValue) (rounds : ℕ) (j : Judged AnswerValue) : Type 0 where
@@ -45,7 +45,7 @@ pub record WritesDriven (number : ℕ) (U : Unfolding) (s : SceneValue) (rounds 
   pub last : MailCore
   pub leads : MailRun U 0 (quiet core) (driven_log number s.net rounds) last
   pub count : ℕ
-  pub counted : IsGreatestMail s.net nothing (driven_log number s.net rounds) count
+  pub counted : IsGreatestMail s.net no_posts (driven_log number s.net rounds) count
   pub is : j ≡ Accepted (plain 0 (verdict_text (verdict.Yes rounds) ++ values_text last.core ++ rounds_text count))
 
 abbrev pub DrivesWithin : Bool → ℕ → Unfolding → SceneValue → ℕ → Judged AnswerValue → Type 0

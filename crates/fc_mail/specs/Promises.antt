@@ -6,7 +6,7 @@ use Rattle.fragment_check.specs.Verdicts.{verdict_of}
 use Rattle.mail_laws.specs.Laws.{MailStabilises}
 use Rattle.message_links.specs.MailCores.{MailCore, MailRun}
 use Rattle.firing_core.specs.Cores.{Core}
-use Rattle.mail_drive.specs.Laws.{nothing}
+use Rattle.mail_drive.specs.Laws.{no_posts}
 use Rattle.mail_lines.specs.MailLines.{mail_log}
 use Rattle.edit_commands.specs.LineByLine.{AllLines}
 use Rattle.mail_book.specs.MailViews.{quiet}
@@ -16,14 +16,14 @@ use Rattle.net_json.specs.Scenes.{SceneValue}
 use Rattle.report.specs.Texts.{field_text, values_text}
 use Rattle.report.specs.Verdicts.{rounds_text, verdict_text}
 use Rattle.fc_values.specs.declared.limits.TheConstants.{MOST_BYTES}
-use Rattle.fc_inputs.specs.Answers.{AnswerValue}
-use Rattle.fc_inputs.specs.Causes.{Accepted}
-use Rattle.fc_inputs.specs.Inputs.{ReadsInput}
-use Rattle.fc_inputs.specs.Owing.{IsZero, OfThree, OfTwo, Owes}
-use Rattle.fc_inputs.specs.Sections.{AreWithin}
-use Rattle.fc_inputs.specs.Starts.{start_of}
+use Rattle.command_frame.specs.Answers.{AnswerValue}
+use Rattle.command_frame.specs.Causes.{Accepted}
+use Rattle.command_frame.specs.Inputs.{ReadsInput}
+use Rattle.command_frame.specs.Owing.{IsZero, OfThree, OfTwo, Owes}
+use Rattle.command_frame.specs.Sections.{AreWithin}
+use Rattle.command_frame.specs.Starts.{start_of}
 use Rattle.fc_mail.specs.Commands.{AnswersMail}
-use Rattle.fc_mail.specs.Mails.{Mailed, entries_in}
+use Rattle.fc_mail.specs.Mails.{Mailed, mail_entries_in}
 use Rattle.fc_mail.specs.Drives.{Settles, driven_log}
 
 -- The lines of a mail log lead from the scene, with nothing heard and nothing in transit, to a mail core whose values
@@ -38,9 +38,9 @@ pub record MailKeepsYes (program network log text : List ℕ) : Type 0 where
   pub entries : Mailed
   pub lines : mail_log log ≡ AllLines entries
   pub last : MailCore
-  pub leads : MailRun unfolded 0 (quiet (start_of scene)) (entries_in entries) last
+  pub leads : MailRun unfolded 0 (quiet (start_of scene)) (mail_entries_in entries) last
   pub rounds : ℕ
-  pub counted : IsGreatestMail scene.net nothing (entries_in entries) rounds
+  pub counted : IsGreatestMail scene.net no_posts (mail_entries_in entries) rounds
   pub writes : text ≡ values_text last.core ++ rounds_text rounds
   pub stabilises : (k : ℕ) → verdict_of unfolded (length scene.net.devices) ≡ verdict.Yes k
       → MailStabilises unfolded scene.net k
@@ -65,7 +65,7 @@ pub record DrivenMailKeepsYes (number : ℕ) (program network text : List ℕ) :
   pub last : MailCore
   pub leads : MailRun unfolded 0 (quiet core) (driven_log number scene.net rounds) last
   pub count : ℕ
-  pub counted : IsGreatestMail scene.net nothing (driven_log number scene.net rounds) count
+  pub counted : IsGreatestMail scene.net no_posts (driven_log number scene.net rounds) count
   pub enough : rounds ≤ count
   pub no_more : 1 ≤ length scene.net.links → count ≡ rounds
   pub writes : text ≡ verdict_text (verdict.Yes rounds) ++ values_text last.core ++ rounds_text count

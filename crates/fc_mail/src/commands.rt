@@ -2,16 +2,16 @@
 
 ghost use Rattle.std.specs.Prelude.{IfErr, IfOk, map};
 ghost use Rattle.fc_values.specs.declared.limits.TheConstants.{MOST_BYTES};
-ghost use Rattle.fc_inputs.specs.Causes.{Accepted, Refused};
-ghost use Rattle.fc_inputs.specs.Code.{value_of};
-ghost use Rattle.fc_inputs.specs.Sections.{AreWithin};
-ghost use Rattle.fc_inputs.specs.Stops.{StopsFor};
+ghost use Rattle.command_frame.specs.Causes.{Accepted, Refused};
+ghost use Rattle.command_frame.specs.Code.{value_of};
+ghost use Rattle.command_frame.specs.Sections.{AreWithin};
+ghost use Rattle.command_frame.specs.Stops.{StopsFor};
 ghost use Rattle.fc_mail.specs.Commands.{AnswersMail};
 
 use crate::driven::mail_number;
 use crate::mails::mail_log;
+use command_frame::{Answer, Stop, three_sections, two_sections};
 use command_words::MailOptions;
-use fc_inputs::{Answer, Stop, three_sections, two_sections};
 use std::alloc::Global;
 
 /// The answer of `mail` to the sections of an input.

@@ -2,7 +2,7 @@
 
 ghost use Rattle.fc_mail.specs.Promises.{MailOwes};
 
-use fc_inputs::inputs_are_read;
+use command_frame::inputs_are_read;
 use firing_core::{faultless_steps, logs_decide, steps_keep_good};
 use mail_book::mail_logs_end;
 use mail_count::some_greatest_mail;

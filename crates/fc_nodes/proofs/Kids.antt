@@ -3,7 +3,7 @@ use Rattle.std.proofs.Common.{◌≡◌, ℕ, zero, suc, ◌<◌, ◌+◌, List,
 use Rattle.fc_values.specs.declared.builtins.Builtin.{Builtin}
 use Rattle.fc_values.specs.Types.{LocalType, BoolType, ValueType}
 use Rattle.fc_nodes.specs.declared.nodes.Node.{Node}
-use Rattle.fc_nodes.specs.Terms.{Evolution, Uid, Term, Terms, Plain, Apply, Nbr, Evolve, If, Let, NoMore, More, size, sizes, Sort, OfLeaf, OfApply, OfNbr, OfEvolve, OfIf, OfLet, of_two, term_by, terms_by, term_at, HasNode, Laid, AllLaid, places, kept_type, is_branching}
+use Rattle.fc_nodes.specs.Terms.{Evolution, Uid, Term, Terms, Plain, Apply, Nbr, Evolve, If, Let, NoMore, More, size, sizes, Sort, OfLeaf, OfApply, OfNbr, OfEvolve, OfIf, OfLet, with_two_children, term_by, terms_by, term_at, HasNode, Laid, AllLaid, places, kept_type, is_branching}
 use Rattle.fc_nodes.proofs.Places.{AllAbove, term_is, laid_within}
 use Rattle.fc_values.specs.BuiltinTypes.{inner}
 use Rattle.fc_nodes.specs.Places.{StandsAt, StandAfter}
@@ -85,7 +85,7 @@ nbr_laid ns ab p t ks h l = by_kids ks h (term_is ns ab p OfNbr t ks h) (subst (
 -- a `rep`, a `share` or a `let`, of which f is the term
 two_laid : (ns : List Node) (p : ℕ) (s : Sort) (t : ValueType) (f : Term → Term → Term) → (s ≡ OfLeaf Uid → ⊥)
     → ((a b : Term) → Laid ns p (f a b) → HasNode ns p s t (suc p ∷ (suc p + size a) ∷ []) × Laid ns (suc p) a × Laid ns (suc p + size a) b)
-    → (ks : List ℕ) → HasNode ns p s t ks → term_at ns p ≡ of_two f (term_at ns) t ks → Laid ns p (of_two f (term_at ns) t ks) → TwoKids ns p f ks
+    → (ks : List ℕ) → HasNode ns p s t ks → term_at ns p ≡ with_two_children f (term_at ns) t ks → Laid ns p (with_two_children f (term_at ns) t ks) → TwoKids ns p f ks
 two_laid ns p s t f apart parts [] h e l = absurd (apart cc)
 two_laid ns p s t f apart parts (a ∷ []) h e l = absurd (apart cc)
 two_laid ns p s t f apart parts (a ∷ b ∷ c ∷ ks) h e l = absurd (apart cc)

@@ -8,7 +8,7 @@ use Rattle.fc_values.specs.declared.types.InputTy.TheVariants as input
 use Rattle.fc_values.specs.Types.{LocalType, IntType, BoolType, ValueType, TypeLocal, Declarations, Input, input_type, leaves}
 use Rattle.fc_values.specs.Values.{LocalValue, IntValue, BoolValue, PairValue}
 use Rattle.fc_values.specs.BuiltinTypes.{Takes, Folds, rule_by, lifted, inner, inners, has_field, takes_add, takes_sub, takes_mul, takes_rise, takes_min, takes_max, takes_less, takes_equal, takes_and, takes_or, takes_not, takes_mux, takes_pair, takes_fst, takes_snd, folds_min, folds_max, folds_sum, folds_any, folds_all}
-use Rattle.fc_nodes.specs.Terms.{Leaf, Literal, Variable, Sense, Uid, NbrLink, Evolution, ByRep, ByShare, Term, Terms, Plain, Apply, Nbr, Evolve, If, Let, NoMore, More, type_of, size}
+use Rattle.fc_nodes.specs.Terms.{Leaf, Literal, Variable, Sense, Uid, NbrLink, Evolution, ByRep, ByShare, Term, Terms, Plain, Apply, Nbr, Evolve, If, Let, NoMore, More, term_type, size}
 use Rattle.fc_nodes.specs.Typing.{Scope, type_at, IsLiteral, LeafHasType, evolving_type, types_of, HasType, HaveTypes}
 
 pub record IsNarrow (s : LocalType) : Type 0 where
@@ -119,19 +119,19 @@ local_narrow s t u e f h = let g : inner u ≡ inner t = ap inner f ∙ sym (ap 
 
 module _ (D : Declarations) where
   mutual
-    pub term_narrow : (scope : Scope) (p : ℕ) (t : Term) → HasType D scope p t → ScopeIsNarrow scope → IsNarrow (inner (type_of t)) × Keeps IsNarrow t
+    pub term_narrow : (scope : Scope) (p : ℕ) (t : Term) → HasType D scope p t → ScopeIsNarrow scope → IsNarrow (inner (term_type t)) × Keeps IsNarrow t
     term_narrow scope p (Plain t l) h s = (leaf_narrow D scope t l h s, tt)
     term_narrow scope p (Apply t o xs) h s =
         let ih = terms_narrow scope (suc p) xs h.1 s in
         (rule_narrow (is_hood o) o (types_of xs) t h.0 ih.0, ih.1)
     term_narrow scope p (Nbr t a) h s =
         let ih = term_narrow scope (suc p) a h.3 s in
-        let e : inner (type_of a) ≡ inner t = ap inner h.2 ∙ sym (ap inner h.1) in
+        let e : inner (term_type a) ≡ inner t = ap inner h.2 ∙ sym (ap inner h.1) in
         let n : IsNarrow (inner t) = subst IsNarrow e ih.0 in
         (n, (n, ih.1))
     term_narrow scope p (Evolve t e a b) h s =
         let ih = term_narrow scope (suc p) a h.4 s in
-        let n : IsNarrow (inner t) = local_narrow h.0 t (type_of a) h.1 h.2 ih.0 in
+        let n : IsNarrow (inner t) = local_narrow h.0 t (term_type a) h.1 h.2 ih.0 in
         let w : inner t ≡ inner (evolving_type e h.0) = ap inner h.1 ∙ sym (evolving_inner e h.0) in
         let ih' = term_narrow ((p, evolving_type e h.0) ∷ scope) (suc p + size a) b h.5 (subst IsNarrow w n, s) in
         (n, (n, ih.1, ih'.1))
@@ -139,10 +139,10 @@ module _ (D : Declarations) where
         let ih = term_narrow scope (suc p) x h.5 s in
         let ih' = term_narrow scope (suc p + size x) a h.6 s in
         let ih'' = term_narrow scope (suc p + size x + size a) b h.7 s in
-        (local_narrow h.0 t (type_of a) h.1 h.3 ih'.0, (bool_narrow, ih.1, ih'.1, ih''.1))
+        (local_narrow h.0 t (term_type a) h.1 h.3 ih'.0, (bool_narrow, ih.1, ih'.1, ih''.1))
     term_narrow scope p (Let t a b) h s =
         let ih = term_narrow scope (suc p) a h.1 s in
-        let ih' = term_narrow ((p, type_of a) ∷ scope) (suc p + size a) b h.2 (ih.0, s) in
+        let ih' = term_narrow ((p, term_type a) ∷ scope) (suc p + size a) b h.2 (ih.0, s) in
         (subst (λ u. IsNarrow (inner u)) (sym h.0) ih'.0, (ih.1, ih'.1))
 
     pub terms_narrow : (scope : Scope) (p : ℕ) (xs : Terms) → HaveTypes D scope p xs → ScopeIsNarrow scope → AreNarrow (inners (types_of xs)) × AllKeep IsNarrow xs

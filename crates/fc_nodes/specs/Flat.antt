@@ -5,7 +5,7 @@ use Rattle.fc_values.specs.Values.{LocalValue, IntValue, BoolValue, PairValue, F
 use Rattle.fc_values.specs.BuiltinTypes.{inner}
 use Rattle.fc_values.specs.Trees.{Tree, Trees, Keep, Done, Then, leaf, TreeExport}
 use Rattle.fc_values.specs.Exports.{SlotValue, FlatExport, slot_at}
-use Rattle.fc_nodes.specs.Terms.{Term, Terms, Plain, Apply, Nbr, Evolve, If, Let, NoMore, More, type_of, kept, kept_types}
+use Rattle.fc_nodes.specs.Terms.{Term, Terms, Plain, Apply, Nbr, Evolve, If, Let, NoMore, More, term_type, kept, kept_types}
 use Rattle.fc_nodes.specs.Program.{Unfolding}
 
 -- a tree of a form: what it keeps, and its kids
@@ -57,7 +57,7 @@ abbrev mutual
 
 -- an export of a program: the value fits the type of `main`, and the tree fits `main`
 pub record IsWellTyped (U : Unfolding) (e : TreeExport) : Type 0 where
-  pub value : Fits U.declared.ceiling (inner (type_of U.main)) e.value
+  pub value : Fits U.declared.ceiling (inner (term_type U.main)) e.value
   pub tree : FitsTree U.declared.ceiling U.main e.tree
 
 -- what a kept truth value picks

@@ -5,7 +5,7 @@ use Rattle.fc_values.specs.declared.types.InputTy.{InputTy}
 use Rattle.fc_values.specs.declared.types.InputTy.TheVariants as input
 use Rattle.fc_values.specs.Types.{LocalType, TypeLocal, Declarations, Input, IsRange}
 use Rattle.fc_nodes.specs.declared.nodes.Node.{Node}
-use Rattle.fc_nodes.specs.Terms.{Term, type_of, term_at, WellFormed}
+use Rattle.fc_nodes.specs.Terms.{Term, term_type, term_at, WellFormed}
 use Rattle.fc_nodes.specs.Typing.{HasType}
 
 -- what contracts see of an unfolded program: its declarations, and its nodes in preorder
@@ -13,7 +13,7 @@ pub record Program : Type 0 where
   pub declared : Declarations
   pub nodes : List Node
 
--- what the definitions see of it: its declarations, and `main` as a term
+-- a program once it is unfolded, as the definitions see it: its declarations, and `main` as a term
 pub record Unfolding : Type 0 where
   pub declared : Declarations
   pub main : Term
@@ -46,5 +46,5 @@ pub record IsProgram (p : Program) : Type 0 where
   pub lawful : IsLawful p.declared
   pub formed : WellFormed p.nodes
   pub typed : HasType p.declared [] 0 (term_at p.nodes 0)
-  pub root : (s : LocalType) × (type_of (term_at p.nodes 0) ≡ TypeLocal s)
+  pub root : (s : LocalType) × (term_type (term_at p.nodes 0) ≡ TypeLocal s)
   pub short : length p.nodes ≤ MOST_NODES

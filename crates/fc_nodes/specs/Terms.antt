@@ -37,13 +37,13 @@ mutual
     More : Term → Terms → Terms
 
 -- the type of a term
-abbrev pub type_of : Term → ValueType
-type_of (Plain t l) = t
-type_of (Apply t o xs) = t
-type_of (Nbr t a) = t
-type_of (Evolve t e a b) = t
-type_of (If t c a b) = t
-type_of (Let t a b) = t
+abbrev pub term_type : Term → ValueType
+term_type (Plain t l) = t
+term_type (Apply t o xs) = t
+term_type (Nbr t a) = t
+term_type (Evolve t e a b) = t
+term_type (If t c a b) = t
+term_type (Let t a b) = t
 
 -- the number of nodes
 abbrev mutual
@@ -110,25 +110,25 @@ abbrev pub terms_by : (ℕ → Term) → List ℕ → Terms
 terms_by go [] = NoMore
 terms_by go (k ∷ ks) = More (go k) (terms_by go ks)
 
-abbrev pub of_one : (Term → Term) → (ℕ → Term) → ValueType → List ℕ → Term
-of_one f go t (a ∷ []) = f (go a)
-of_one f go t _ = Plain t Uid
+abbrev pub with_one_child : (Term → Term) → (ℕ → Term) → ValueType → List ℕ → Term
+with_one_child f go t (a ∷ []) = f (go a)
+with_one_child f go t _ = Plain t Uid
 
-abbrev pub of_two : (Term → Term → Term) → (ℕ → Term) → ValueType → List ℕ → Term
-of_two f go t (a ∷ b ∷ []) = f (go a) (go b)
-of_two f go t _ = Plain t Uid
+abbrev pub with_two_children : (Term → Term → Term) → (ℕ → Term) → ValueType → List ℕ → Term
+with_two_children f go t (a ∷ b ∷ []) = f (go a) (go b)
+with_two_children f go t _ = Plain t Uid
 
-abbrev pub of_three : (Term → Term → Term → Term) → (ℕ → Term) → ValueType → List ℕ → Term
-of_three f go t (a ∷ b ∷ c ∷ []) = f (go a) (go b) (go c)
-of_three f go t _ = Plain t Uid
+abbrev pub with_three_children : (Term → Term → Term → Term) → (ℕ → Term) → ValueType → List ℕ → Term
+with_three_children f go t (a ∷ b ∷ c ∷ []) = f (go a) (go b) (go c)
+with_three_children f go t _ = Plain t Uid
 
 abbrev pub term_by : (ℕ → Term) → Sort → ValueType → List ℕ → Term
 term_by go (OfLeaf l) t ks = Plain t l
 term_by go (OfApply o) t ks = Apply t o (terms_by go ks)
-term_by go OfNbr t ks = of_one (Nbr t) go t ks
-term_by go (OfEvolve e) t ks = of_two (Evolve t e) go t ks
-term_by go OfIf t ks = of_three (If t) go t ks
-term_by go OfLet t ks = of_two (Let t) go t ks
+term_by go OfNbr t ks = with_one_child (Nbr t) go t ks
+term_by go (OfEvolve e) t ks = with_two_children (Evolve t e) go t ks
+term_by go OfIf t ks = with_three_children (If t) go t ks
+term_by go OfLet t ks = with_two_children (Let t) go t ks
 
 abbrev pub term_for : (ℕ → Term) → Option View → Term
 term_for go None = Plain (TypeLocal IntType) Uid

@@ -3,7 +3,7 @@ use Rattle.std.specs.Prelude.{ℕ, suc, ◌≡◌, ◌≤◌, ◌+◌, List, [],
 use Rattle.fc_values.specs.Types.{LocalType, IntType, BoolType, ValueType, TypeLocal, TypeField, Declarations, Input, input_type}
 use Rattle.fc_values.specs.Values.{LocalValue, IntValue, BoolValue, PairValue}
 use Rattle.fc_values.specs.BuiltinTypes.{HasRule}
-use Rattle.fc_nodes.specs.Terms.{Leaf, Literal, Variable, Sense, Uid, NbrLink, Evolution, ByRep, ByShare, Term, Terms, Plain, Apply, Nbr, Evolve, If, Let, NoMore, More, type_of, size}
+use Rattle.fc_nodes.specs.Terms.{Leaf, Literal, Variable, Sense, Uid, NbrLink, Evolution, ByRep, ByShare, Term, Terms, Plain, Apply, Nbr, Evolve, If, Let, NoMore, More, term_type, size}
 
 -- the binders in scope, by their places, with the types of their variables; the nearest counts
 abbrev pub Scope : Type 0
@@ -34,9 +34,10 @@ abbrev pub evolving_type : Evolution → LocalType → ValueType
 evolving_type ByRep s = TypeLocal s
 evolving_type ByShare s = TypeField s
 
+-- the types of terms in a row
 abbrev pub types_of : Terms → List ValueType
 types_of NoMore = []
-types_of (More x xs) = type_of x ∷ types_of xs
+types_of (More x xs) = term_type x ∷ types_of xs
 
 -- a term that stands at a place has the types that it names
 abbrev mutual
@@ -44,15 +45,15 @@ abbrev mutual
   HasType D scope p (Plain t l) = LeafHasType D scope t l
   HasType D scope p (Apply t o xs) = HasRule o (types_of xs) t × HaveTypes D scope (suc p) xs
   HasType D scope p (Nbr t a) =
-      (s : LocalType) × (t ≡ TypeField s) × (type_of a ≡ TypeLocal s) × HasType D scope (suc p) a
+      (s : LocalType) × (t ≡ TypeField s) × (term_type a ≡ TypeLocal s) × HasType D scope (suc p) a
   HasType D scope p (Evolve t e a b) =
-      (s : LocalType) × (t ≡ TypeLocal s) × (type_of a ≡ TypeLocal s) × (type_of b ≡ TypeLocal s)
+      (s : LocalType) × (t ≡ TypeLocal s) × (term_type a ≡ TypeLocal s) × (term_type b ≡ TypeLocal s)
       × HasType D scope (suc p) a × HasType D ((p, evolving_type e s) ∷ scope) (suc p + size a) b
-  HasType D scope p (If t c a b) = (s : LocalType) × (t ≡ TypeLocal s) × (type_of c ≡ TypeLocal BoolType)
-      × (type_of a ≡ TypeLocal s) × (type_of b ≡ TypeLocal s)
+  HasType D scope p (If t c a b) = (s : LocalType) × (t ≡ TypeLocal s) × (term_type c ≡ TypeLocal BoolType)
+      × (term_type a ≡ TypeLocal s) × (term_type b ≡ TypeLocal s)
       × HasType D scope (suc p) c × HasType D scope (suc p + size c) a × HasType D scope (suc p + size c + size a) b
   HasType D scope p (Let t a b) =
-      (t ≡ type_of b) × HasType D scope (suc p) a × HasType D ((p, type_of a) ∷ scope) (suc p + size a) b
+      (t ≡ term_type b) × HasType D scope (suc p) a × HasType D ((p, term_type a) ∷ scope) (suc p + size a) b
 
   pub HaveTypes : Declarations → Scope → ℕ → Terms → Type 0
   HaveTypes D scope p NoMore = Unit {0}

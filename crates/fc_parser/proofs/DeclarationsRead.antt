@@ -8,7 +8,7 @@ use Rattle.fc_values.specs.declared.names.Word.{Word}
 use Rattle.fc_values.specs.declared.names.Word.TheVariants as word
 use Rattle.fc_lexer.specs.Kinds.{TokenKind, NumberOf, WordOf, NameOf, MarkOf}
 use Rattle.fc_syntax.specs.Printable.{IsNumber}
-use Rattle.fc_syntax.specs.Terms.{Term, Declaration, LanguageIs, CeilingIs, InputIs, MetricIs, DefIs, MainIs}
+use Rattle.fc_syntax.specs.Terms.{SourceTerm, Declaration, LanguageIs, CeilingIs, InputIs, MetricIs, DefIs, MainIs}
 use Rattle.fc_parser.specs.Grammar.{Expression, DeclarationIs, language, ceiling, truth_input, whole_input, metric, definition, main}
 use Rattle.fc_parser.specs.Reading.{Got}
 use Rattle.fc_parser.specs.Expressions.{expression_read, mark_read, name_read}
@@ -56,13 +56,13 @@ unfolding range_read mark_read
 range_there m n r h k = rw (number_there m (MarkOf mark.Dots ∷ NumberOf n ∷ r) h, number_there n r k) refl
 
 -- = expr ;
-record BodyRead (second : Bool) (ts r : List TokenKind) (e : Term) : Type 0 where
+record BodyRead (second : Bool) (ts r : List TokenKind) (e : SourceTerm) : Type 0 where
   us : List TokenKind
   all : r ≡ []
   same : ts ≡ MarkOf mark.Is ∷ (us ++ (MarkOf mark.Semi ∷ []))
   spells : Expression second us e
 
-body_got : (second : Bool) (ts : List TokenKind) (e : Term) (r : List TokenKind) → body_read second ts ≡ Got e r → BodyRead second ts r e
+body_got : (second : Bool) (ts : List TokenKind) (e : SourceTerm) (r : List TokenKind) → body_read second ts ≡ Got e r → BodyRead second ts r e
 unfolding body_read
 body_got second ts e r h =
     let a = got (mark_read mark.Is ts) _ e r h in
@@ -79,7 +79,7 @@ body_got second ts e r h =
       spells = subst (Expression second x.front) is x.holds;
     }
 
-body_there : (second : Bool) (ts : List TokenKind) (e : Term) → Expression second ts e → body_read second (MarkOf mark.Is ∷ (ts ++ (MarkOf mark.Semi ∷ []))) ≡ Got e []
+body_there : (second : Bool) (ts : List TokenKind) (e : SourceTerm) → Expression second ts e → body_read second (MarkOf mark.Is ∷ (ts ++ (MarkOf mark.Semi ∷ []))) ≡ Got e []
 unfolding body_read mark_read
 body_there second ts e h = rw (expression_complete second ts e h (MarkOf mark.Semi ∷ []) tt, finish_there) refl
 

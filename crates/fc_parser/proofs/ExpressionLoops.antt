@@ -17,7 +17,7 @@ use Rattle.fc_syntax.specs.declared.tree.Expr.TheVariants.{rolls-Apply, rolls-Le
 use Rattle.fc_syntax.specs.declared.tree.Expr.TheViews.{Apply, Let}
 use Rattle.fc_values.specs.BuiltinTypes.{arity}
 use Rattle.fc_syntax.specs.Printable.{count}
-use Rattle.fc_syntax.specs.Terms.{Term, ApplyTerm, LetTerm, Terms, NoTerms, MoreTerms, term_of, term_step, terms}
+use Rattle.fc_syntax.specs.Terms.{SourceTerm, ApplyTerm, LetTerm, SourceTerms, NoTerms, MoreTerms, term_of, term_step, terms}
 use Rattle.fc_parser.specs.Grammar.{two}
 use Rattle.fc_parser.specs.Reading.{Read, Got, Not, ◌>>=◌, Reader}
 use Rattle.fc_parser.specs.Expressions.{kinds_of, if_got, nested, mark_read, let_read, not_read, operator_read, count_nots, after_nots, more_with, arguments_with, has_builtin, applied, builtin_with, atom_with, unary_with, chain_with, turns, level_with, operations_with, binding_with, expression_with, expression_at, GivesExpression, GivesArguments, GivesBinding, GivesRest}
@@ -57,27 +57,27 @@ nots_end (WordOf word.Not ∷ ts) e = cc
 nots_end (k ∷ ts) e = refl
 
 -- one binding more
-pub nested-snoc : (ps : List (Name × Expr)) (p : Name × Expr) (f : Term) → nested (ps ++ (p ∷ [])) f ≡ nested ps (LetTerm p.0.text.items (term_of p.1) f)
+pub nested-snoc : (ps : List (Name × Expr)) (p : Name × Expr) (f : SourceTerm) → nested (ps ++ (p ∷ [])) f ≡ nested ps (LetTerm p.0.text.items (term_of p.1) f)
 nested-snoc [] p f = refl
 nested-snoc (q ∷ ps) p f = ap (LetTerm q.0.text.items (term_of q.1)) (nested-snoc ps p f)
 
-pub rebound : (ps qs : List (Name × Expr)) (p : Name × Expr) (f g : Term) → qs ≡ ps ++ (p ∷ []) → g ≡ LetTerm p.0.text.items (term_of p.1) f → nested ps g ≡ nested qs f
+pub rebound : (ps qs : List (Name × Expr)) (p : Name × Expr) (f g : SourceTerm) → qs ≡ ps ++ (p ∷ []) → g ≡ LetTerm p.0.text.items (term_of p.1) f → nested ps g ≡ nested qs f
 rebound ps qs p f g e is = ap (nested ps) is ∙ sym (nested-snoc ps p f) ∙ ap (λ l. nested l f) (sym e)
 
 -- a body's reading, behind bindings
-abbrev pub behind : List (Name × Expr) → Read Term → Read Term
+abbrev pub behind : List (Name × Expr) → Read SourceTerm → Read SourceTerm
 behind ps x = x >>= λ f r. Got (nested ps f) r
 
 -- arguments, and those after them
-abbrev pub onto : List Term → Terms → Terms
+abbrev pub onto : List SourceTerm → SourceTerms → SourceTerms
 onto [] es = es
 onto (e ∷ xs) es = MoreTerms e (onto xs es)
 
-pub onto-snoc : (xs : List Term) (e : Term) (es : Terms) → onto (xs ++ (e ∷ [])) es ≡ onto xs (MoreTerms e es)
+pub onto-snoc : (xs : List SourceTerm) (e : SourceTerm) (es : SourceTerms) → onto (xs ++ (e ∷ [])) es ≡ onto xs (MoreTerms e es)
 onto-snoc [] e es = refl
 onto-snoc (x ∷ xs) e es = ap (MoreTerms x) (onto-snoc xs e es)
 
-pub onto-none : (xs : List Term) → onto xs NoTerms ≡ terms xs
+pub onto-none : (xs : List SourceTerm) → onto xs NoTerms ≡ terms xs
 onto-none [] = refl
 onto-none (x ∷ xs) = ap (MoreTerms x) (onto-none xs)
 
@@ -86,24 +86,24 @@ terms_count [] = refl
 terms_count (x ∷ xs) = omega (arith, terms_count xs)
 
 -- a part that isn't read
-pub passes : (e : Refused) (part whole : Read Term) → GivesExpression (Err e) part → (part ≡ Not → whole ≡ Not) → GivesExpression (Err e) whole
+pub passes : (e : Refused) (part whole : Read SourceTerm) → GivesExpression (Err e) part → (part ≡ Not → whole ≡ Not) → GivesExpression (Err e) whole
 passes refused.Outside part whole g h = h g
 passes refused.Memory part whole g h = tt
 
-pub passes_binding : (e : Refused) (part : Read (List ℕ × Term)) (whole : Read Term) → GivesBinding (Err e) part → (part ≡ Not → whole ≡ Not) → GivesExpression (Err e) whole
+pub passes_binding : (e : Refused) (part : Read (List ℕ × SourceTerm)) (whole : Read SourceTerm) → GivesBinding (Err e) part → (part ≡ Not → whole ≡ Not) → GivesExpression (Err e) whole
 passes_binding refused.Outside part whole g h = h g
 passes_binding refused.Memory part whole g h = tt
 
-pub passes_argument : (e : Refused) (part : Read Term) (whole : Read Terms) → GivesExpression (Err e) part → (part ≡ Not → whole ≡ Not) → GivesArguments (Err e) whole
+pub passes_argument : (e : Refused) (part : Read SourceTerm) (whole : Read SourceTerms) → GivesExpression (Err e) part → (part ≡ Not → whole ≡ Not) → GivesArguments (Err e) whole
 passes_argument refused.Outside part whole g h = h g
 passes_argument refused.Memory part whole g h = tt
 
-pub passes_rest : (e : Refused) (part : Read (Unit {0})) (whole : Read Terms) → GivesRest (Err e) part → (part ≡ Not → whole ≡ Not) → GivesArguments (Err e) whole
+pub passes_rest : (e : Refused) (part : Read (Unit {0})) (whole : Read SourceTerms) → GivesRest (Err e) part → (part ≡ Not → whole ≡ Not) → GivesArguments (Err e) whole
 passes_rest refused.Outside part whole g h = h g.0
 passes_rest refused.Memory part whole g h = tt
 
 -- a result of a part that is the whole
-pub read_as : (result : Result (Expr × Bor (List Token)) Refused) (part whole : Read Term) → part ≡ whole → GivesExpression result part → GivesExpression result whole
+pub read_as : (result : Result (Expr × Bor (List Token)) Refused) (part whole : Read SourceTerm) → part ≡ whole → GivesExpression result part → GivesExpression result whole
 read_as result part whole e g = subst (GivesExpression result) e g
 
 -- one expression more
@@ -114,41 +114,41 @@ pub pushed_first : (xs ys : List Expr) (e : Expr) → xs ≡ [] → ys ≡ xs ++
 pushed_first xs ys e none h = ap (map term_of) (h ∙ ap (λ l. l ++ (e ∷ [])) none)
 
 -- what is left to read of arguments, after those that are read
-abbrev pub arguments_left : Reader Term → ℕ → List Term → List TokenKind → Read Terms
+abbrev pub arguments_left : Reader SourceTerm → ℕ → List SourceTerm → List TokenKind → Read SourceTerms
 arguments_left inner k xs rest = more_with inner k rest >>= λ es c. mark_read mark.CloseRound c >>= λ _ d. Got (onto xs es) d
 
-pub arguments_end : (inner : Reader Term) (ts : List TokenKind) (u : Unit {0}) (r : List TokenKind) → mark_read mark.CloseRound ts ≡ Got u r → arguments_with inner ts ≡ Got NoTerms r
+pub arguments_end : (inner : Reader SourceTerm) (ts : List TokenKind) (u : Unit {0}) (r : List TokenKind) → mark_read mark.CloseRound ts ≡ Got u r → arguments_with inner ts ≡ Got NoTerms r
 unfolding arguments_with
 arguments_end inner ts u r h =
     ap (λ v. if_got v (λ _ a. Got NoTerms a) (inner ts >>= λ e a. more_with inner (length a) a >>= λ es b. mark_read mark.CloseRound b >>= λ _ c. Got (MoreTerms e es) c)) h
 
-some_are : (inner : Reader Term) (ts : List TokenKind) → mark_read mark.CloseRound ts ≡ Not
+some_are : (inner : Reader SourceTerm) (ts : List TokenKind) → mark_read mark.CloseRound ts ≡ Not
     → arguments_with inner ts ≡ (inner ts >>= λ e a. more_with inner (length a) a >>= λ es b. mark_read mark.CloseRound b >>= λ _ c. Got (MoreTerms e es) c)
 unfolding arguments_with
 some_are inner ts h =
     ap (λ v. if_got v (λ _ a. Got NoTerms a) (inner ts >>= λ e a. more_with inner (length a) a >>= λ es b. mark_read mark.CloseRound b >>= λ _ c. Got (MoreTerms e es) c)) h
 
-pub arguments_none : (inner : Reader Term) (ts : List TokenKind) → mark_read mark.CloseRound ts ≡ Not → inner ts ≡ Not → arguments_with inner ts ≡ Not
+pub arguments_none : (inner : Reader SourceTerm) (ts : List TokenKind) → mark_read mark.CloseRound ts ≡ Not → inner ts ≡ Not → arguments_with inner ts ≡ Not
 arguments_none inner ts h g = some_are inner ts h ∙ ap (λ v. v >>= λ e a. more_with inner (length a) a >>= λ es b. mark_read mark.CloseRound b >>= λ _ c. Got (MoreTerms e es) c) g
 
-pub arguments_start : (inner : Reader Term) (ts : List TokenKind) (e : Term) (k : ℕ) (xs : List Term) (r : List TokenKind) → mark_read mark.CloseRound ts ≡ Not → inner ts ≡ Got e r → k ≡ length r → xs ≡ e ∷ []
+pub arguments_start : (inner : Reader SourceTerm) (ts : List TokenKind) (e : SourceTerm) (k : ℕ) (xs : List SourceTerm) (r : List TokenKind) → mark_read mark.CloseRound ts ≡ Not → inner ts ≡ Got e r → k ≡ length r → xs ≡ e ∷ []
     → arguments_left inner k xs r ≡ arguments_with inner ts
 arguments_start inner ts e k xs r h g is xs_are =
     ap (λ m. arguments_left inner m xs r) is
     ∙ ap (λ l. arguments_left inner (length r) l r) xs_are
     ∙ sym (some_are inner ts h ∙ ap (λ v. v >>= λ w a. more_with inner (length a) a >>= λ es b. mark_read mark.CloseRound b >>= λ _ c. Got (MoreTerms w es) c) g)
 
-more_step : (inner : Reader Term) (j : ℕ) (rest after : List TokenKind) (u : Unit {0}) → mark_read mark.Comma rest ≡ Got u after
+more_step : (inner : Reader SourceTerm) (j : ℕ) (rest after : List TokenKind) (u : Unit {0}) → mark_read mark.Comma rest ≡ Got u after
     → more_with inner (suc j) rest ≡ (inner after >>= λ e b. more_with inner j b >>= λ es c. Got (MoreTerms e es) c)
 unfolding more_with
 more_step inner j rest after u h = ap (λ v. if_got v (λ _ a. inner a >>= λ e b. more_with inner j b >>= λ es c. Got (MoreTerms e es) c) (Got NoTerms rest)) h
 
-onto_read : (x : Read Terms) (xs : List Term) (e : Term)
+onto_read : (x : Read SourceTerms) (xs : List SourceTerm) (e : SourceTerm)
     → ((x >>= λ es c. Got (MoreTerms e es) c) >>= λ es c. mark_read mark.CloseRound c >>= λ _ d. Got (onto xs es) d) ≡ (x >>= λ es c. mark_read mark.CloseRound c >>= λ _ d. Got (onto (xs ++ (e ∷ [])) es) d)
 onto_read (Got es c) xs e = ap (λ v. mark_read mark.CloseRound c >>= λ _ d. Got v d) (sym (onto-snoc xs e es))
 onto_read Not xs e = refl
 
-more_left : (inner : Reader Term) (k : ℕ) (xs : List Term) (rest after : List TokenKind) (u : Unit {0}) → 0 < k → mark_read mark.Comma rest ≡ Got u after
+more_left : (inner : Reader SourceTerm) (k : ℕ) (xs : List SourceTerm) (rest after : List TokenKind) (u : Unit {0}) → 0 < k → mark_read mark.Comma rest ≡ Got u after
     → arguments_left inner k xs rest ≡ ((inner after >>= λ e b. more_with inner (k - 1) b >>= λ es c. Got (MoreTerms e es) c) >>= λ es c. mark_read mark.CloseRound c >>= λ _ d. Got (onto xs es) d)
 more_left inner zero xs rest after u lt h = absurd (omega arith)
 more_left inner (suc j) xs rest after u lt h =
@@ -156,7 +156,7 @@ more_left inner (suc j) xs rest after u lt h =
     ap (λ v. v >>= λ es c. mark_read mark.CloseRound c >>= λ _ d. Got (onto xs es) d) (more_step inner j rest after u h)
     ∙ ap (λ m. (inner after >>= λ e b. more_with inner m b >>= λ es c. Got (MoreTerms e es) c) >>= λ es c. mark_read mark.CloseRound c >>= λ _ d. Got (onto xs es) d) is
 
-pub arguments_more : (inner : Reader Term) (k : ℕ) (xs ys : List Term) (e : Term) (rest after next : List TokenKind) (u : Unit {0}) (whole : Read Terms) → arguments_left inner k xs rest ≡ whole → 0 < k
+pub arguments_more : (inner : Reader SourceTerm) (k : ℕ) (xs ys : List SourceTerm) (e : SourceTerm) (rest after next : List TokenKind) (u : Unit {0}) (whole : Read SourceTerms) → arguments_left inner k xs rest ≡ whole → 0 < k
     → mark_read mark.Comma rest ≡ Got u after → inner after ≡ Got e next → ys ≡ xs ++ (e ∷ []) → arguments_left inner (k - 1) ys next ≡ whole
 arguments_more inner k xs ys e rest after next u whole inv lt h g ys_are =
     ap (λ l. arguments_left inner (k - 1) l next) ys_are
@@ -165,37 +165,37 @@ arguments_more inner k xs ys e rest after next u whole inv lt h g ys_are =
     ∙ sym (more_left inner k xs rest after u lt h)
     ∙ inv
 
-pub arguments_fail : (inner : Reader Term) (k : ℕ) (xs : List Term) (rest after : List TokenKind) (u : Unit {0}) (whole : Read Terms) → arguments_left inner k xs rest ≡ whole → 0 < k
+pub arguments_fail : (inner : Reader SourceTerm) (k : ℕ) (xs : List SourceTerm) (rest after : List TokenKind) (u : Unit {0}) (whole : Read SourceTerms) → arguments_left inner k xs rest ≡ whole → 0 < k
     → mark_read mark.Comma rest ≡ Got u after → inner after ≡ Not → whole ≡ Not
 arguments_fail inner k xs rest after u whole inv lt h g =
     sym inv ∙ more_left inner k xs rest after u lt h
     ∙ ap (λ v. (v >>= λ w b. more_with inner (k - 1) b >>= λ es c. Got (MoreTerms w es) c) >>= λ es c. mark_read mark.CloseRound c >>= λ _ d. Got (onto xs es) d) g
 
 -- no more arguments
-pub more_end : (inner : Reader Term) (k : ℕ) (rest : List TokenKind) → k ≤ 0 → more_with inner k rest ≡ Got NoTerms rest
+pub more_end : (inner : Reader SourceTerm) (k : ℕ) (rest : List TokenKind) → k ≤ 0 → more_with inner k rest ≡ Got NoTerms rest
 unfolding more_with
 more_end inner zero rest le = refl
 more_end inner (suc k) rest le = absurd (omega arith)
 
-pub more_stop : (inner : Reader Term) (k : ℕ) (rest : List TokenKind) → mark_read mark.Comma rest ≡ Not → more_with inner k rest ≡ Got NoTerms rest
+pub more_stop : (inner : Reader SourceTerm) (k : ℕ) (rest : List TokenKind) → mark_read mark.Comma rest ≡ Not → more_with inner k rest ≡ Got NoTerms rest
 unfolding more_with
 more_stop inner zero rest h = refl
 more_stop inner (suc k) rest h = ap (λ v. if_got v (λ _ a. inner a >>= λ e b. more_with inner k b >>= λ es c. Got (MoreTerms e es) c) (Got NoTerms rest)) h
 
-left_end : (inner : Reader Term) (k : ℕ) (xs : List Term) (rest : List TokenKind) → more_with inner k rest ≡ Got NoTerms rest → arguments_left inner k xs rest ≡ (mark_read mark.CloseRound rest >>= λ _ d. Got (terms xs) d)
+left_end : (inner : Reader SourceTerm) (k : ℕ) (xs : List SourceTerm) (rest : List TokenKind) → more_with inner k rest ≡ Got NoTerms rest → arguments_left inner k xs rest ≡ (mark_read mark.CloseRound rest >>= λ _ d. Got (terms xs) d)
 left_end inner k xs rest h =
     ap (λ v. v >>= λ es c. mark_read mark.CloseRound c >>= λ _ d. Got (onto xs es) d) h ∙ ap (λ v. mark_read mark.CloseRound rest >>= λ _ d. Got v d) (onto-none xs)
 
-pub arguments_closed : (inner : Reader Term) (k : ℕ) (xs : List Term) (rest r : List TokenKind) (u : Unit {0}) (whole : Read Terms) → arguments_left inner k xs rest ≡ whole → more_with inner k rest ≡ Got NoTerms rest
+pub arguments_closed : (inner : Reader SourceTerm) (k : ℕ) (xs : List SourceTerm) (rest r : List TokenKind) (u : Unit {0}) (whole : Read SourceTerms) → arguments_left inner k xs rest ≡ whole → more_with inner k rest ≡ Got NoTerms rest
     → mark_read mark.CloseRound rest ≡ Got u r → whole ≡ Got (terms xs) r
 arguments_closed inner k xs rest r u whole inv h g = sym inv ∙ left_end inner k xs rest h ∙ ap (λ v. v >>= λ _ d. Got (terms xs) d) g
 
-pub arguments_open : (inner : Reader Term) (k : ℕ) (xs : List Term) (rest : List TokenKind) (whole : Read Terms) → arguments_left inner k xs rest ≡ whole → more_with inner k rest ≡ Got NoTerms rest
+pub arguments_open : (inner : Reader SourceTerm) (k : ℕ) (xs : List SourceTerm) (rest : List TokenKind) (whole : Read SourceTerms) → arguments_left inner k xs rest ≡ whole → more_with inner k rest ≡ Got NoTerms rest
     → mark_read mark.CloseRound rest ≡ Not → whole ≡ Not
 arguments_open inner k xs rest whole inv h g = sym inv ∙ left_end inner k xs rest h ∙ ap (λ v. v >>= λ _ d. Got (terms xs) d) g
 
 -- a builtin and its arguments
-applied_as : (second : Bool) (inner : Reader Term) (o : Builtin) (ts a c : List TokenKind) (u : Unit {0}) (es : Terms) → has_builtin second o ≡ true → mark_read mark.OpenRound ts ≡ Got u a → arguments_with inner a ≡ Got es c
+applied_as : (second : Bool) (inner : Reader SourceTerm) (o : Builtin) (ts a c : List TokenKind) (u : Unit {0}) (es : SourceTerms) → has_builtin second o ≡ true → mark_read mark.OpenRound ts ≡ Got u a → arguments_with inner a ≡ Got es c
     → builtin_with second inner (Some o) ts ≡ applied o es c
 unfolding builtin_with
 applied_as second inner o ts a c u es l h g =
@@ -203,13 +203,13 @@ applied_as second inner o ts a c u es l h g =
     ∙ ap (λ v. v >>= λ _ s. arguments_with inner s >>= applied o) h
     ∙ ap (λ v. v >>= applied o) g
 
-pub builtin_done : (second : Bool) (inner : Reader Term) (o : Builtin) (ts a c : List TokenKind) (u : Unit {0}) (xs : List Expr) → has_builtin second o ≡ true → mark_read mark.OpenRound ts ≡ Got u a
+pub builtin_done : (second : Bool) (inner : Reader SourceTerm) (o : Builtin) (ts a c : List TokenKind) (u : Unit {0}) (xs : List Expr) → has_builtin second o ≡ true → mark_read mark.OpenRound ts ≡ Got u a
     → arguments_with inner a ≡ Got (terms (map term_of xs)) c → length xs ≡ arity o → builtin_with second inner (Some o) ts ≡ Got (ApplyTerm o (terms (map term_of xs))) c
 builtin_done second inner o ts a c u xs l h g n =
     let yes : (count (terms (map term_of xs)) == arity o) ≡ true = grind (arith, nat_tests, terms_count xs) in
     applied_as second inner o ts a c u (terms (map term_of xs)) l h g ∙ ap (λ t. if t then Got (ApplyTerm o (terms (map term_of xs))) c else Not) yes
 
-pub builtin_miscounted : (second : Bool) (inner : Reader Term) (o : Builtin) (ts a c : List TokenKind) (u : Unit {0}) (xs : List Expr) → has_builtin second o ≡ true → mark_read mark.OpenRound ts ≡ Got u a
+pub builtin_miscounted : (second : Bool) (inner : Reader SourceTerm) (o : Builtin) (ts a c : List TokenKind) (u : Unit {0}) (xs : List Expr) → has_builtin second o ≡ true → mark_read mark.OpenRound ts ≡ Got u a
     → arguments_with inner a ≡ Got (terms (map term_of xs)) c → (length xs ≡ arity o → ⊥) → builtin_with second inner (Some o) ts ≡ Not
 builtin_miscounted second inner o ts a c u xs l h g n =
     let no : (count (terms (map term_of xs)) == arity o) ≡ false = grind (arith, nat_tests, terms_count xs) in
@@ -217,10 +217,10 @@ builtin_miscounted second inner o ts a c u xs l h g n =
 
 -- how an expression is seen
 pub apply_is : (o : Builtin) (args : Vec Expr Global) → term_of (Apply o args) ≡ ApplyTerm o (terms (map term_of args.items))
-apply_is o args = ap term_of (sym (rolls-Apply o args)) ∙ fold-roll-Expr Term term_step (Expr-F.Apply o args)
+apply_is o args = ap term_of (sym (rolls-Apply o args)) ∙ fold-roll-Expr SourceTerm term_step (Expr-F.Apply o args)
 
 pub let_is : (x : Name) (bound body : Box Expr Global) → term_of (Let x bound body) ≡ LetTerm x.text.items (term_of bound.value) (term_of body.value)
-let_is x bound body = ap term_of (sym (rolls-Let x bound body)) ∙ fold-roll-Expr Term term_step (Expr-F.Let x bound body)
+let_is x bound body = ap term_of (sym (rolls-Let x bound body)) ∙ fold-roll-Expr SourceTerm term_step (Expr-F.Let x bound body)
 
 -- operators of a strength
 pub turns_once : (n most : ℕ) → n ≡ 3 → 1 ≡ turns n most
@@ -229,24 +229,24 @@ turns_once n most e = let yes : (n == 3) ≡ true = grind (arith, nat_tests) in 
 pub turns_many : (n most : ℕ) → (n ≡ 3 → ⊥) → most ≡ turns n most
 turns_many n most e = let no : (n == 3) ≡ false = grind (arith, nat_tests) in sym (ap (λ t. if t then 1 else most) no)
 
-level_is : (read : Reader Term) (n : ℕ) → n ≤ 5 → operations_with read n ≡ level_with n (operations_with read (n + 1))
+level_is : (read : Reader SourceTerm) (n : ℕ) → n ≤ 5 → operations_with read n ≡ level_with n (operations_with read (n + 1))
 level_is read n le = let next : suc n ≡ n + 1 = omega arith in level_step read n le ∙ ap (λ m. level_with n (operations_with read m)) next
 
-pub operations_start : (read : Reader Term) (n : ℕ) (ts : List TokenKind) (e : Term) (k : ℕ) (r : List TokenKind) → n ≤ 5 → operations_with read (n + 1) ts ≡ Got e r → k ≡ turns n (length r)
+pub operations_start : (read : Reader SourceTerm) (n : ℕ) (ts : List TokenKind) (e : SourceTerm) (k : ℕ) (r : List TokenKind) → n ≤ 5 → operations_with read (n + 1) ts ≡ Got e r → k ≡ turns n (length r)
     → chain_with n (operations_with read (n + 1)) k e r ≡ operations_with read n ts
 unfolding level_with
 operations_start read n ts e k r le h is =
     ap (λ m. chain_with n (operations_with read (n + 1)) m e r) is
     ∙ sym (ap (λ f. f ts) (level_is read n le) ∙ ap (λ v. v >>= λ w a. chain_with n (operations_with read (n + 1)) (turns n (length a)) w a) h)
 
-pub operations_none : (read : Reader Term) (n : ℕ) (ts : List TokenKind) → n ≤ 5 → operations_with read (n + 1) ts ≡ Not → operations_with read n ts ≡ Not
+pub operations_none : (read : Reader SourceTerm) (n : ℕ) (ts : List TokenKind) → n ≤ 5 → operations_with read (n + 1) ts ≡ Not → operations_with read n ts ≡ Not
 unfolding level_with
 operations_none read n ts le h = ap (λ f. f ts) (level_is read n le) ∙ ap (λ v. v >>= λ w a. chain_with n (operations_with read (n + 1)) (turns n (length a)) w a) h
 
-pub operations_strongest : (read : Reader Term) (n : ℕ) (ts : List TokenKind) → n ≡ 6 → unary_with read ts ≡ operations_with read n ts
+pub operations_strongest : (read : Reader SourceTerm) (n : ℕ) (ts : List TokenKind) → n ≡ 6 → unary_with read ts ≡ operations_with read n ts
 operations_strongest read n ts is = sym (ap (λ m. operations_with read m ts) is ∙ ap (λ f. f ts) (unary_step read))
 
-chain_step : (n : ℕ) (below : Reader Term) (k : ℕ) (e : Term) (o : Builtin) (rest after : List TokenKind) → 0 < k → operator_read n rest ≡ Got o after
+chain_step : (n : ℕ) (below : Reader SourceTerm) (k : ℕ) (e : SourceTerm) (o : Builtin) (rest after : List TokenKind) → 0 < k → operator_read n rest ≡ Got o after
     → chain_with n below k e rest ≡ (below after >>= λ f c. chain_with n below (k - 1) (ApplyTerm o (two e f)) c)
 unfolding chain_with
 chain_step n below zero e o rest after lt h = absurd (omega arith)
@@ -254,7 +254,7 @@ chain_step n below (suc j) e o rest after lt h =
     let is : j ≡ suc j - 1 = omega arith in
     ap (λ v. if_got v (λ p a. below a >>= λ f c. chain_with n below j (ApplyTerm p (two e f)) c) (Got e rest)) h ∙ ap (λ m. below after >>= λ f c. chain_with n below m (ApplyTerm o (two e f)) c) is
 
-pub operations_more : (n : ℕ) (below : Reader Term) (k : ℕ) (e f g : Term) (o : Builtin) (rest after next : List TokenKind) (whole : Read Term) → chain_with n below k e rest ≡ whole → 0 < k
+pub operations_more : (n : ℕ) (below : Reader SourceTerm) (k : ℕ) (e f g : SourceTerm) (o : Builtin) (rest after next : List TokenKind) (whole : Read SourceTerm) → chain_with n below k e rest ≡ whole → 0 < k
     → operator_read n rest ≡ Got o after → below after ≡ Got f next → g ≡ ApplyTerm o (two e f) → chain_with n below (k - 1) g next ≡ whole
 operations_more n below k e f g o rest after next whole inv lt h b is =
     ap (λ v. chain_with n below (k - 1) v next) is
@@ -262,17 +262,17 @@ operations_more n below k e f g o rest after next whole inv lt h b is =
     ∙ sym (chain_step n below k e o rest after lt h)
     ∙ inv
 
-pub operations_fail : (n : ℕ) (below : Reader Term) (k : ℕ) (e : Term) (o : Builtin) (rest after : List TokenKind) (whole : Read Term) → chain_with n below k e rest ≡ whole → 0 < k
+pub operations_fail : (n : ℕ) (below : Reader SourceTerm) (k : ℕ) (e : SourceTerm) (o : Builtin) (rest after : List TokenKind) (whole : Read SourceTerm) → chain_with n below k e rest ≡ whole → 0 < k
     → operator_read n rest ≡ Got o after → below after ≡ Not → whole ≡ Not
 operations_fail n below k e o rest after whole inv lt h b =
     sym inv ∙ chain_step n below k e o rest after lt h ∙ ap (λ v. v >>= λ w c. chain_with n below (k - 1) (ApplyTerm o (two e w)) c) b
 
-pub operations_stop : (n : ℕ) (below : Reader Term) (k : ℕ) (e : Term) (rest : List TokenKind) (whole : Read Term) → chain_with n below k e rest ≡ whole → operator_read n rest ≡ Not → whole ≡ Got e rest
+pub operations_stop : (n : ℕ) (below : Reader SourceTerm) (k : ℕ) (e : SourceTerm) (rest : List TokenKind) (whole : Read SourceTerm) → chain_with n below k e rest ≡ whole → operator_read n rest ≡ Not → whole ≡ Got e rest
 unfolding chain_with
 operations_stop n below zero e rest whole inv h = sym inv
 operations_stop n below (suc k) e rest whole inv h = sym inv ∙ ap (λ v. if_got v (λ o a. below a >>= λ f c. chain_with n below k (ApplyTerm o (two e f)) c) (Got e rest)) h
 
-pub operations_end : (n : ℕ) (below : Reader Term) (k : ℕ) (e : Term) (rest : List TokenKind) (whole : Read Term) → chain_with n below k e rest ≡ whole → k ≤ 0 → whole ≡ Got e rest
+pub operations_end : (n : ℕ) (below : Reader SourceTerm) (k : ℕ) (e : SourceTerm) (rest : List TokenKind) (whole : Read SourceTerm) → chain_with n below k e rest ≡ whole → k ≤ 0 → whole ≡ Got e rest
 unfolding chain_with
 operations_end n below zero e rest whole inv le = sym inv
 operations_end n below (suc k) e rest whole inv le = absurd (omega arith)
@@ -287,7 +287,7 @@ within_is second (suc j) ts lt =
     let is : j ≡ suc j - 1 = omega arith in
     ap (λ m. if_got (let_read ts) (λ _ a. binding_with (expression_at second m) a >>= λ p c. expression_at second m c >>= λ f r. Got (LetTerm p.0 p.1 f) r) (operations_with (atom_with second (expression_at second m)) 1 ts)) is
 
-pub within_end : (second : Bool) (k : ℕ) (ps : List (Name × Expr)) (rest : List TokenKind) (whole : Read Term) → behind ps (expression_at second k rest) ≡ whole → k ≤ 0 → whole ≡ Not
+pub within_end : (second : Bool) (k : ℕ) (ps : List (Name × Expr)) (rest : List TokenKind) (whole : Read SourceTerm) → behind ps (expression_at second k rest) ≡ whole → k ≤ 0 → whole ≡ Not
 unfolding expression_at
 within_end second zero ps rest whole inv le = sym inv
 within_end second (suc k) ps rest whole inv le = absurd (omega arith)
@@ -298,11 +298,11 @@ body_is second k rest lt h =
     ∙ ap (λ v. if_got v (λ _ a. binding_with (expression_at second (k - 1)) a >>= λ p c. expression_at second (k - 1) c >>= λ f r. Got (LetTerm p.0 p.1 f) r)
     (operations_with (atom_with second (expression_at second (k - 1))) 1 rest)) h
 
-pub within_body : (second : Bool) (k : ℕ) (ps : List (Name × Expr)) (rest r : List TokenKind) (f g : Term) (whole : Read Term) → behind ps (expression_at second k rest) ≡ whole → 0 < k → let_read rest ≡ Not
+pub within_body : (second : Bool) (k : ℕ) (ps : List (Name × Expr)) (rest r : List TokenKind) (f g : SourceTerm) (whole : Read SourceTerm) → behind ps (expression_at second k rest) ≡ whole → 0 < k → let_read rest ≡ Not
     → operations_with (atom_with second (expression_at second (k - 1))) 1 rest ≡ Got f r → g ≡ nested ps f → whole ≡ Got g r
 within_body second k ps rest r f g whole inv lt h b is = sym inv ∙ ap (behind ps) (body_is second k rest lt h ∙ b) ∙ ap (λ v. Got v r) (sym is)
 
-pub within_none : (second : Bool) (k : ℕ) (ps : List (Name × Expr)) (rest : List TokenKind) (whole : Read Term) → behind ps (expression_at second k rest) ≡ whole → 0 < k → let_read rest ≡ Not
+pub within_none : (second : Bool) (k : ℕ) (ps : List (Name × Expr)) (rest : List TokenKind) (whole : Read SourceTerm) → behind ps (expression_at second k rest) ≡ whole → 0 < k → let_read rest ≡ Not
     → operations_with (atom_with second (expression_at second (k - 1))) 1 rest ≡ Not → whole ≡ Not
 within_none second k ps rest whole inv lt h b = sym inv ∙ ap (behind ps) (body_is second k rest lt h ∙ b)
 
@@ -313,16 +313,16 @@ let_step second k rest after u lt h =
     ∙ ap (λ v. if_got v (λ _ a. binding_with (expression_at second (k - 1)) a >>= λ p c. expression_at second (k - 1) c >>= λ f r. Got (LetTerm p.0 p.1 f) r)
     (operations_with (atom_with second (expression_at second (k - 1))) 1 rest)) h
 
-pub within_fail : (second : Bool) (k : ℕ) (ps : List (Name × Expr)) (rest after : List TokenKind) (u : Unit {0}) (whole : Read Term) → behind ps (expression_at second k rest) ≡ whole → 0 < k → let_read rest ≡ Got u after
+pub within_fail : (second : Bool) (k : ℕ) (ps : List (Name × Expr)) (rest after : List TokenKind) (u : Unit {0}) (whole : Read SourceTerm) → behind ps (expression_at second k rest) ≡ whole → 0 < k → let_read rest ≡ Got u after
     → binding_with (expression_at second (k - 1)) after ≡ Not → whole ≡ Not
 within_fail second k ps rest after u whole inv lt h b =
     sym inv ∙ ap (behind ps) (let_step second k rest after u lt h ∙ ap (λ v. v >>= λ p c. expression_at second (k - 1) c >>= λ f r. Got (LetTerm p.0 p.1 f) r) b)
 
-behind_one : (ps : List (Name × Expr)) (p : Name × Expr) (x : Read Term) → behind ps (x >>= λ f r. Got (LetTerm p.0.text.items (term_of p.1) f) r) ≡ behind (ps ++ (p ∷ [])) x
+behind_one : (ps : List (Name × Expr)) (p : Name × Expr) (x : Read SourceTerm) → behind ps (x >>= λ f r. Got (LetTerm p.0.text.items (term_of p.1) f) r) ≡ behind (ps ++ (p ∷ [])) x
 behind_one ps p (Got f r) = ap (λ v. Got v r) (sym (nested-snoc ps p f))
 behind_one ps p Not = refl
 
-pub within_more : (second : Bool) (k : ℕ) (ps qs : List (Name × Expr)) (p : Name × Expr) (rest after next : List TokenKind) (u : Unit {0}) (whole : Read Term) → behind ps (expression_at second k rest) ≡ whole → 0 < k
+pub within_more : (second : Bool) (k : ℕ) (ps qs : List (Name × Expr)) (p : Name × Expr) (rest after next : List TokenKind) (u : Unit {0}) (whole : Read SourceTerm) → behind ps (expression_at second k rest) ≡ whole → 0 < k
     → let_read rest ≡ Got u after → binding_with (expression_at second (k - 1)) after ≡ Got (p.0.text.items, term_of p.1) next → qs ≡ ps ++ (p ∷ []) → behind qs (expression_at second (k - 1) next) ≡ whole
 within_more second k ps qs p rest after next u whole inv lt h b qs_are =
     ap (λ l. behind l (expression_at second (k - 1) next)) qs_are

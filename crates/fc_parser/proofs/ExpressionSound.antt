@@ -9,7 +9,7 @@ use Rattle.fc_lexer.specs.declared.tokens.Mark.TheVariants as mark
 use Rattle.fc_values.specs.declared.names.Word.{Word}
 use Rattle.fc_values.specs.declared.names.Word.TheVariants as word
 use Rattle.fc_lexer.specs.Kinds.{TokenKind, NumberOf, WordOf, NameOf, MarkOf}
-use Rattle.fc_syntax.specs.Terms.{Term, IntTerm, TruthTerm, VarTerm, UidTerm, NbrLinkTerm, SenseTerm, ApplyTerm, NbrTerm, IfTerm, LetTerm, CallTerm, Terms, NoTerms, MoreTerms}
+use Rattle.fc_syntax.specs.Terms.{SourceTerm, IntTerm, TruthTerm, VarTerm, UidTerm, NbrLinkTerm, SenseTerm, ApplyTerm, NbrTerm, IfTerm, LetTerm, CallTerm, SourceTerms, NoTerms, MoreTerms}
 use Rattle.fc_syntax.specs.Text.{builtin_strength, left_asks}
 use Rattle.fc_values.specs.BuiltinTypes.{arity}
 use Rattle.fc_syntax.specs.Printable.{count, IsOfLanguage}
@@ -154,16 +154,16 @@ binder_is ts x r e =
     let rest : f.rest ≡ r = cc in
     cc (ea, eb, ec, ed, ef, name, rest)
 
-abbrev pub IsSound : Reader Term → (List TokenKind → Term → Type 0) → Type 0
-IsSound read P = (ts : List TokenKind) (e : Term) (r : List TokenKind) → read ts ≡ Got e r → Fronts (λ p. P p e) ts r
+abbrev pub IsSound : Reader SourceTerm → (List TokenKind → SourceTerm → Type 0) → Type 0
+IsSound read P = (ts : List TokenKind) (e : SourceTerm) (r : List TokenKind) → read ts ≡ Got e r → Fronts (λ p. P p e) ts r
 
 -- an expression between two marks
-record Enclosed (second : Bool) (opening closing : Mark) (ts : List TokenKind) (e : Term) (r : List TokenKind) : Type 0 where
+record Enclosed (second : Bool) (opening closing : Mark) (ts : List TokenKind) (e : SourceTerm) (r : List TokenKind) : Type 0 where
   front : List TokenKind
   cut : ts ≡ MarkOf opening ∷ (front ++ (MarkOf closing ∷ r))
   holds : Expression second front e
 
-enclosed_is : (second : Bool) (opening closing : Mark) (inner : Reader Term) → IsSound inner (Expression second) → (ts : List TokenKind) (e : Term) (r : List TokenKind)
+enclosed_is : (second : Bool) (opening closing : Mark) (inner : Reader SourceTerm) → IsSound inner (Expression second) → (ts : List TokenKind) (e : SourceTerm) (r : List TokenKind)
     → enclosed_with opening closing inner ts ≡ Got e r → Enclosed second opening closing ts e r
 unfolding enclosed_with
 enclosed_is second opening closing inner h ts e r eq =
@@ -179,7 +179,7 @@ enclosed_is second opening closing inner h ts e r eq =
     record { front = x.front; cut = ea ∙ ap (λ l. MarkOf opening ∷ l) (x.cut ∙ ap (λ l. x.front ++ l) (ec ∙ ap (λ l. MarkOf closing ∷ l) rest)); holds = subst (Expression second x.front) same x.holds }
 
 -- arguments
-sound_more : (second : Bool) (inner : Reader Term) → IsSound inner (Expression second) → (k : ℕ) (ts : List TokenKind) (es : Terms) (r : List TokenKind)
+sound_more : (second : Bool) (inner : Reader SourceTerm) → IsSound inner (Expression second) → (k : ℕ) (ts : List TokenKind) (es : SourceTerms) (r : List TokenKind)
     → more_with inner k ts ≡ Got es r → Fronts (λ p. MoreArguments second p es) ts r
 unfolding more_with
 sound_more second inner h zero ts es r e =
@@ -205,12 +205,12 @@ sound_more second inner h (suc k) ts es r e = elim (chosen (mark_read mark.Comma
       record { front = []; cut = cc; holds = subst (MoreArguments second []) same no_more }
 ]
 
-record Closed (second : Bool) (ts : List TokenKind) (es : Terms) (r : List TokenKind) : Type 0 where
+record Closed (second : Bool) (ts : List TokenKind) (es : SourceTerms) (r : List TokenKind) : Type 0 where
   front : List TokenKind
   cut : ts ≡ front ++ (MarkOf mark.CloseRound ∷ r)
   holds : Arguments second front es
 
-arguments_are : (second : Bool) (inner : Reader Term) → IsSound inner (Expression second) → (ts : List TokenKind) (es : Terms) (r : List TokenKind)
+arguments_are : (second : Bool) (inner : Reader SourceTerm) → IsSound inner (Expression second) → (ts : List TokenKind) (es : SourceTerms) (r : List TokenKind)
     → arguments_with inner ts ≡ Got es r → Closed second ts es r
 unfolding arguments_with
 arguments_are second inner h ts es r e = elim (chosen (mark_read mark.CloseRound ts) _ _ es r e) [
@@ -241,7 +241,7 @@ closing : (front : List TokenKind) (k : TokenKind) (r : List TokenKind) → fron
 closing front k r = sym (append_assoc front (k ∷ []) r)
 
 -- atoms
-sound_bracketed : (second : Bool) (inner : Reader Term) → IsSound inner (Expression second) → (ts : List TokenKind) (e : Term) (r : List TokenKind)
+sound_bracketed : (second : Bool) (inner : Reader SourceTerm) → IsSound inner (Expression second) → (ts : List TokenKind) (e : SourceTerm) (r : List TokenKind)
     → bracketed_with inner ts ≡ Got e r → Fronts (λ p. Atom second p e) (MarkOf mark.OpenRound ∷ ts) r
 unfolding bracketed_with
 sound_bracketed second inner h ts e r eq =
@@ -280,7 +280,7 @@ sound_bracketed second inner h ts e r eq =
           }
     ]
 
-sound_named : (second : Bool) (inner : Reader Term) → IsSound inner (Expression second) → (x : List ℕ) (ts : List TokenKind) (e : Term) (r : List TokenKind)
+sound_named : (second : Bool) (inner : Reader SourceTerm) → IsSound inner (Expression second) → (x : List ℕ) (ts : List TokenKind) (e : SourceTerm) (r : List TokenKind)
     → named_with inner x ts ≡ Got e r → Fronts (λ p. Atom second p e) (NameOf x ∷ ts) r
 unfolding named_with
 sound_named second inner h x ts e r eq = elim (chosen (mark_read mark.OpenRound ts) _ _ e r eq) [
@@ -307,7 +307,7 @@ of_language : (second : Bool) (o : Builtin) → has_builtin second o ≡ true �
 of_language second op.Rise h = h
 of_language second o h = tt
 
-builtin_as : (second : Bool) (inner : Reader Term) → IsSound inner (Expression second) → (w : Word) (v : Option Builtin) (ts : List TokenKind) (e : Term) (r : List TokenKind)
+builtin_as : (second : Bool) (inner : Reader SourceTerm) → IsSound inner (Expression second) → (w : Word) (v : Option Builtin) (ts : List TokenKind) (e : SourceTerm) (r : List TokenKind)
     → named w ≡ v → builtin_with second inner v ts ≡ Got e r → Fronts (λ p. Atom second p e) (WordOf w ∷ ts) r
 unfolding builtin_with
 builtin_as second inner h w None ts e r i eq = cc
@@ -333,18 +333,18 @@ abbrev fold_tokens : List TokenKind → List ℕ → List TokenKind → List Tok
 fold_tokens ts x us =
     MarkOf mark.OpenRound ∷ (ts ++ (MarkOf mark.CloseRound ∷ MarkOf mark.OpenCurly ∷ MarkOf mark.OpenRound ∷ NameOf x ∷ MarkOf mark.CloseRound ∷ MarkOf mark.Arrow ∷ (us ++ (MarkOf mark.CloseCurly ∷ []))))
 
-record Folded (second shared : Bool) (ts : List TokenKind) (e : Term) (r : List TokenKind) : Type 0 where
+record Folded (second shared : Bool) (ts : List TokenKind) (e : SourceTerm) (r : List TokenKind) : Type 0 where
   name : List ℕ
   first : List TokenKind
   body : List TokenKind
-  start : Term
-  next : Term
+  start : SourceTerm
+  next : SourceTerm
   cut : ts ≡ fold_tokens first name body ++ r
   starts : Expression second first start
   goes_on : Expression second body next
   is : fold_term shared start name next ≡ e
 
-fold_is : (second shared : Bool) (inner : Reader Term) → IsSound inner (Expression second) → (ts : List TokenKind) (e : Term) (r : List TokenKind) → fold_with shared inner ts ≡ Got e r → Folded second shared ts e r
+fold_is : (second shared : Bool) (inner : Reader SourceTerm) → IsSound inner (Expression second) → (ts : List TokenKind) (e : SourceTerm) (r : List TokenKind) → fold_with shared inner ts ≡ Got e r → Folded second shared ts e r
 unfolding fold_with
 fold_is second shared inner h ts e r eq =
     let a = got (enclosed_with mark.OpenRound mark.CloseRound inner ts) _ e r eq in
@@ -379,7 +379,7 @@ fold_is second shared inner h ts e r eq =
       is = same;
     }
 
-sound_choice : (second : Bool) (inner : Reader Term) → IsSound inner (Expression second) → (ts : List TokenKind) (e : Term) (r : List TokenKind)
+sound_choice : (second : Bool) (inner : Reader SourceTerm) → IsSound inner (Expression second) → (ts : List TokenKind) (e : SourceTerm) (r : List TokenKind)
     → choice_with inner ts ≡ Got e r → Fronts (λ p. Atom second p e) (WordOf word.If ∷ ts) r
 unfolding choice_with
 sound_choice second inner h ts e r eq =
@@ -413,13 +413,13 @@ sound_choice second inner h ts e r eq =
     }
 
 -- an atom of one token
-lone : (second : Bool) (k : TokenKind) (a e : Term) (ts r : List TokenKind) → Atom second (k ∷ []) a → Got a ts ≡ Got e r → Fronts (λ p. Atom second p e) (k ∷ ts) r
+lone : (second : Bool) (k : TokenKind) (a e : SourceTerm) (ts r : List TokenKind) → Atom second (k ∷ []) a → Got a ts ≡ Got e r → Fronts (λ p. Atom second p e) (k ∷ ts) r
 lone second k a e ts r d eq =
     let same : a ≡ e = cc in
     let rest : ts ≡ r = cc in
     record { front = k ∷ []; cut = ap (λ l. k ∷ l) rest; holds = subst (Atom second (k ∷ [])) same d }
 
-sound_sense : (second : Bool) (ts : List TokenKind) (e : Term) (r : List TokenKind) → (name_read ts >>= λ x a. Got (SenseTerm x) a) ≡ Got e r → Fronts (λ p. Atom second p e) (WordOf word.Sense ∷ ts) r
+sound_sense : (second : Bool) (ts : List TokenKind) (e : SourceTerm) (r : List TokenKind) → (name_read ts >>= λ x a. Got (SenseTerm x) a) ≡ Got e r → Fronts (λ p. Atom second p e) (WordOf word.Sense ∷ ts) r
 sound_sense second ts e r eq =
     let a = got (name_read ts) _ e r eq in
     let last : Got (SenseTerm a.value) a.rest ≡ Got e r = a.after in
@@ -431,7 +431,7 @@ sound_sense second ts e r eq =
       holds = subst (Atom second (WordOf word.Sense ∷ NameOf a.value ∷ [])) same (sense a.value);
     }
 
-sound_nbr : (second : Bool) (inner : Reader Term) → IsSound inner (Expression second) → (ts : List TokenKind) (e : Term) (r : List TokenKind)
+sound_nbr : (second : Bool) (inner : Reader SourceTerm) → IsSound inner (Expression second) → (ts : List TokenKind) (e : SourceTerm) (r : List TokenKind)
     → (enclosed_with mark.OpenCurly mark.CloseCurly inner ts >>= λ v a. Got (NbrTerm v) a) ≡ Got e r → Fronts (λ p. Atom second p e) (WordOf word.Nbr ∷ ts) r
 sound_nbr second inner h ts e r eq =
     let a = got (enclosed_with mark.OpenCurly mark.CloseCurly inner ts) _ e r eq in
@@ -445,7 +445,7 @@ sound_nbr second inner h ts e r eq =
       holds = subst (Atom second (WordOf word.Nbr ∷ MarkOf mark.OpenCurly ∷ (x.front ++ (MarkOf mark.CloseCurly ∷ [])))) same (nbr x.front a.value x.holds);
     }
 
-sound_rep : (second : Bool) (inner : Reader Term) → IsSound inner (Expression second) → (ts : List TokenKind) (e : Term) (r : List TokenKind)
+sound_rep : (second : Bool) (inner : Reader SourceTerm) → IsSound inner (Expression second) → (ts : List TokenKind) (e : SourceTerm) (r : List TokenKind)
     → fold_with false inner ts ≡ Got e r → Fronts (λ p. Atom second p e) (WordOf word.Rep ∷ ts) r
 sound_rep second inner h ts e r eq =
     let x = fold_is second false inner h ts e r eq in
@@ -455,7 +455,7 @@ sound_rep second inner h ts e r eq =
       holds = subst (Atom second (WordOf word.Rep ∷ fold_tokens x.first x.name x.body)) x.is (rep x.name x.first x.body x.start x.next x.starts x.goes_on);
     }
 
-sound_share : (second : Bool) (inner : Reader Term) → IsSound inner (Expression second) → (ts : List TokenKind) (e : Term) (r : List TokenKind)
+sound_share : (second : Bool) (inner : Reader SourceTerm) → IsSound inner (Expression second) → (ts : List TokenKind) (e : SourceTerm) (r : List TokenKind)
     → (if second then fold_with true inner ts else Not) ≡ Got e r → Fronts (λ p. Atom second p e) (WordOf word.Share ∷ ts) r
 sound_share second inner h ts e r eq =
     let w = when second (fold_with true inner ts) e r eq in
@@ -466,7 +466,7 @@ sound_share second inner h ts e r eq =
       holds = subst (Atom second (WordOf word.Share ∷ fold_tokens x.first x.name x.body)) x.is (share x.name x.first x.body x.start x.next w.holds x.starts x.goes_on);
     }
 
-sound_word : (second : Bool) (inner : Reader Term) → IsSound inner (Expression second) → (w : Word) (ts : List TokenKind) (e : Term) (r : List TokenKind)
+sound_word : (second : Bool) (inner : Reader SourceTerm) → IsSound inner (Expression second) → (w : Word) (ts : List TokenKind) (e : SourceTerm) (r : List TokenKind)
     → word_with second inner w ts ≡ Got e r → Fronts (λ p. Atom second p e) (WordOf w ∷ ts) r
 unfolding word_with
 sound_word second inner h word.True ts e r eq = lone second (WordOf word.True) (TruthTerm true) e ts r yes eq
@@ -483,7 +483,7 @@ sound_word second inner h w ts e r eq = builtin_as second inner h w (named w) ts
 at_most : (m n : ℕ) → nat_le m n ≡ true → m ≤ n
 at_most m n e = grind (arith, nat_tests)
 
-pub sound_atom : (second : Bool) (inner : Reader Term) → IsSound inner (Expression second) → IsSound (atom_with second inner) (Atom second)
+pub sound_atom : (second : Bool) (inner : Reader SourceTerm) → IsSound inner (Expression second) → IsSound (atom_with second inner) (Atom second)
 unfolding atom_with
 sound_atom second inner h [] e r eq = cc
 sound_atom second inner h (NumberOf n ∷ ts) e r eq =
@@ -495,7 +495,7 @@ sound_atom second inner h (MarkOf mark.OpenRound ∷ ts) e r eq = sound_brackete
 sound_atom second inner h (MarkOf m ∷ ts) e r eq = cc
 
 -- operators
-sound_nots : (second : Bool) (e : Term) (ts r : List TokenKind) → Fronts (λ p. Operation second 6 p e) (after_nots ts) r → Fronts (λ p. Operation second 6 p (negated (count_nots ts) e)) ts r
+sound_nots : (second : Bool) (e : SourceTerm) (ts r : List TokenKind) → Fronts (λ p. Operation second 6 p e) (after_nots ts) r → Fronts (λ p. Operation second 6 p (negated (count_nots ts) e)) ts r
 unfolding count_nots after_nots
 sound_nots second e [] r x = x
 sound_nots second e (WordOf word.Not ∷ ts) r x =
@@ -503,7 +503,7 @@ sound_nots second e (WordOf word.Not ∷ ts) r x =
     record { front = WordOf word.Not ∷ y.front; cut = ap (λ l. WordOf word.Not ∷ l) y.cut; holds = negation 6 y.front (negated (count_nots ts) e) refl y.holds }
 sound_nots second e (k ∷ ts) r x = x
 
-sound_unary : (second : Bool) (below : Reader Term) → IsSound below (Operation second 7) → IsSound (unary_with below) (Operation second 6)
+sound_unary : (second : Bool) (below : Reader SourceTerm) → IsSound below (Operation second 7) → IsSound (unary_with below) (Operation second 6)
 unfolding unary_with
 sound_unary second below h ts e r eq =
     let a = got (below (after_nots ts)) _ e r eq in
@@ -515,22 +515,22 @@ sound_unary second below h ts e r eq =
     record { front = y.front; cut = y.cut ∙ ap (λ l. y.front ++ l) rest; holds = subst (Operation second 6 y.front) same y.holds }
 
 -- what follows p, of which an operation is made
-abbrev Extends : Bool → ℕ → List TokenKind → Term → List TokenKind → List TokenKind → Type 0
+abbrev Extends : Bool → ℕ → List TokenKind → SourceTerm → List TokenKind → List TokenKind → Type 0
 Extends second n p e ts r = Fronts (λ q. Operation second n (p ++ q) e) ts r
 
-ended : (second : Bool) (n : ℕ) (p : List TokenKind) (a e : Term) (ts r : List TokenKind) → Operation second n p a → Got a ts ≡ Got e r → Extends second n p e ts r
+ended : (second : Bool) (n : ℕ) (p : List TokenKind) (a e : SourceTerm) (ts r : List TokenKind) → Operation second n p a → Got a ts ≡ Got e r → Extends second n p e ts r
 ended second n p a e ts r d eq =
     let same : a ≡ e = cc in
     let rest : ts ≡ r = cc in
     record { front = []; cut = rest; holds = subst (λ l. Operation second n l e) (sym (append-nil p)) (subst (Operation second n p) same d) }
 
 -- one operator and its right operand
-record OneTurn (second : Bool) (n : ℕ) (p : List TokenKind) (a : Term) (o : Builtin) (f : Term) (ts next : List TokenKind) : Type 0 where
+record OneTurn (second : Bool) (n : ℕ) (p : List TokenKind) (a : SourceTerm) (o : Builtin) (f : SourceTerm) (ts next : List TokenKind) : Type 0 where
   part : List TokenKind
   cut : ts ≡ part ++ next
   holds : Operation second n (p ++ part) (ApplyTerm o (two a f))
 
-one_turn : (second : Bool) (n : ℕ) (below : Reader Term) → IsSound below (Operation second (suc n)) → (p : List TokenKind) (a : Term) (ts : List TokenKind) (o : Builtin) (s : List TokenKind) (f : Term) (next : List TokenKind)
+one_turn : (second : Bool) (n : ℕ) (below : Reader SourceTerm) → IsSound below (Operation second (suc n)) → (p : List TokenKind) (a : SourceTerm) (ts : List TokenKind) (o : Builtin) (s : List TokenKind) (f : SourceTerm) (next : List TokenKind)
     → Operation second (left_asks n) p a → operator_read n ts ≡ Got o s → below s ≡ Got f next → OneTurn second n p a o f ts next
 one_turn second n below h p a ts o s f next d m g =
     let k = operator_is n ts o s m in
@@ -541,15 +541,15 @@ one_turn second n below h p a ts o s f next d m g =
       holds = between n k.kind o p x.front a f k.is k.strength d x.holds;
     }
 
-extended : (second : Bool) (n : ℕ) (p part : List TokenKind) (e : Term) (ts next r : List TokenKind) → ts ≡ part ++ next → Extends second n (p ++ part) e next r → Extends second n p e ts r
+extended : (second : Bool) (n : ℕ) (p part : List TokenKind) (e : SourceTerm) (ts next r : List TokenKind) → ts ≡ part ++ next → Extends second n (p ++ part) e next r → Extends second n p e ts r
 extended second n p part e ts next r c x = record {
   front = part ++ x.front;
   cut = c ∙ ap (λ l. part ++ l) x.cut ∙ sym (append_assoc part x.front r);
   holds = subst (λ l. Operation second n l e) (append_assoc p part x.front) x.holds;
 }
 
-sound_chain : (second : Bool) (n : ℕ) → n ≡ left_asks n → (below : Reader Term) → IsSound below (Operation second (suc n)) → (k : ℕ) (p : List TokenKind) (a : Term) → Operation second n p a
-    → (ts : List TokenKind) (e : Term) (r : List TokenKind) → chain_with n below k a ts ≡ Got e r → Extends second n p e ts r
+sound_chain : (second : Bool) (n : ℕ) → n ≡ left_asks n → (below : Reader SourceTerm) → IsSound below (Operation second (suc n)) → (k : ℕ) (p : List TokenKind) (a : SourceTerm) → Operation second n p a
+    → (ts : List TokenKind) (e : SourceTerm) (r : List TokenKind) → chain_with n below k a ts ≡ Got e r → Extends second n p e ts r
 unfolding chain_with
 sound_chain second n asks below h zero p a d ts e r eq = ended second n p a e ts r d eq
 sound_chain second n asks below h (suc k) p a d ts e r eq = elim (chosen (operator_read n ts) _ _ e r eq) [
@@ -560,8 +560,8 @@ sound_chain second n asks below h (suc k) p a d ts e r eq = elim (chosen (operat
   | left m f ↦ ended second n p a e ts r d f
 ]
 
-sound_once : (second : Bool) (n : ℕ) (below : Reader Term) → IsSound below (Operation second (suc n)) → (p : List TokenKind) (a : Term) → Operation second (left_asks n) p a → Operation second n p a
-    → (ts : List TokenKind) (e : Term) (r : List TokenKind) → chain_with n below 1 a ts ≡ Got e r → Extends second n p e ts r
+sound_once : (second : Bool) (n : ℕ) (below : Reader SourceTerm) → IsSound below (Operation second (suc n)) → (p : List TokenKind) (a : SourceTerm) → Operation second (left_asks n) p a → Operation second n p a
+    → (ts : List TokenKind) (e : SourceTerm) (r : List TokenKind) → chain_with n below 1 a ts ≡ Got e r → Extends second n p e ts r
 unfolding chain_with
 sound_once second n below h p a q d ts e r eq = elim (chosen (operator_read n ts) _ _ e r eq) [
   | taken o s m f ↦
@@ -571,8 +571,8 @@ sound_once second n below h p a q d ts e r eq = elim (chosen (operator_read n ts
   | left m f ↦ ended second n p a e ts r d f
 ]
 
-sound_turns : (second : Bool) (n : ℕ) (t : Bool) → (n == 3) ≡ t → (below : Reader Term) → IsSound below (Operation second (suc n)) → (p : List TokenKind) (a : Term) → Operation second (suc n) p a
-    → (most : ℕ) (ts : List TokenKind) (e : Term) (r : List TokenKind) → chain_with n below (if t then 1 else most) a ts ≡ Got e r → Extends second n p e ts r
+sound_turns : (second : Bool) (n : ℕ) (t : Bool) → (n == 3) ≡ t → (below : Reader SourceTerm) → IsSound below (Operation second (suc n)) → (p : List TokenKind) (a : SourceTerm) → Operation second (suc n) p a
+    → (most : ℕ) (ts : List TokenKind) (e : SourceTerm) (r : List TokenKind) → chain_with n below (if t then 1 else most) a ts ≡ Got e r → Extends second n p e ts r
 sound_turns second n true is below h p a d most ts e r eq =
     let three : n ≡ 3 = equal_of n 3 is in
     let asks : suc n ≡ left_asks n = omega arith ∙ sym (ap (λ v. if v then 4 else n) is) in
@@ -580,7 +580,7 @@ sound_turns second n true is below h p a d most ts e r eq =
 sound_turns second n false is below h p a d most ts e r eq =
     sound_chain second n (sym (ap (λ v. if v then 4 else n) is)) below h most p a (stronger n p a d) ts e r eq
 
-sound_level : (second : Bool) (n : ℕ) (below : Reader Term) → IsSound below (Operation second (suc n)) → IsSound (level_with n below) (Operation second n)
+sound_level : (second : Bool) (n : ℕ) (below : Reader SourceTerm) → IsSound below (Operation second (suc n)) → IsSound (level_with n below) (Operation second n)
 unfolding level_with
 sound_level second n below h ts e r eq =
     let a = got (below ts) _ e r eq in
@@ -588,12 +588,12 @@ sound_level second n below h ts e r eq =
     let y = sound_turns second n (n == 3) refl below h x.front a.value x.holds (length a.rest) a.rest e r a.after in
     record { front = x.front ++ y.front; cut = x.cut ∙ ap (λ l. x.front ++ l) y.cut ∙ sym (append_assoc x.front y.front r); holds = y.holds }
 
-sound_atoms : (second : Bool) (read : Reader Term) → IsSound read (Atom second) → IsSound read (Operation second 7)
+sound_atoms : (second : Bool) (read : Reader SourceTerm) → IsSound read (Atom second) → IsSound read (Operation second 7)
 sound_atoms second read h ts e r eq =
     let x = h ts e r eq in
     record { front = x.front; cut = x.cut; holds = atom 7 x.front e refl x.holds }
 
-sound_left : (second : Bool) (read : Reader Term) → IsSound read (Atom second) → (m n : ℕ) → n + m ≡ 7 → IsSound (operations_left read m) (Operation second n)
+sound_left : (second : Bool) (read : Reader SourceTerm) → IsSound read (Atom second) → (m n : ℕ) → n + m ≡ 7 → IsSound (operations_left read m) (Operation second n)
 unfolding operations_left
 sound_left second read h zero n e = let is : 7 ≡ n = omega arith in subst (λ v. IsSound read (Operation second v)) is (sound_atoms second read h)
 sound_left second read h (suc zero) n e = let is : 6 ≡ n = omega arith in subst (λ v. IsSound (unary_with read) (Operation second v)) is (sound_unary second read (sound_atoms second read h))
@@ -601,12 +601,12 @@ sound_left second read h (suc (suc m)) n e =
     let is : n ≡ 5 - m = omega arith in
     subst (λ v. IsSound (level_with v (operations_left read (suc m))) (Operation second n)) is (sound_level second n (operations_left read (suc m)) (sound_left second read h (suc m) (suc n) (omega arith)))
 
-pub sound_operations : (second : Bool) (read : Reader Term) → IsSound read (Atom second) → (n : ℕ) → n ≤ 7 → IsSound (operations_with read n) (Operation second n)
+pub sound_operations : (second : Bool) (read : Reader SourceTerm) → IsSound read (Atom second) → (n : ℕ) → n ≤ 7 → IsSound (operations_with read n) (Operation second n)
 unfolding operations_with
 sound_operations second read h n le = sound_left second read h (7 - n) n (omega arith)
 
 -- expressions
-sound_binding : (second : Bool) (inner : Reader Term) → IsSound inner (Expression second) → (ts : List TokenKind) (e : Term) (r : List TokenKind)
+sound_binding : (second : Bool) (inner : Reader SourceTerm) → IsSound inner (Expression second) → (ts : List TokenKind) (e : SourceTerm) (r : List TokenKind)
     → (binding_with inner ts >>= λ p c. inner c >>= λ f s. Got (LetTerm p.0 p.1 f) s) ≡ Got e r → Fronts (λ p. Expression second p e) (WordOf word.Let ∷ ts) r
 unfolding binding_with
 sound_binding second inner h ts e r eq =
@@ -645,7 +645,7 @@ sound_binding second inner h ts e r eq =
       holds = subst (Expression second tokens) same (binding a.value x.front y.front d.value g.value x.holds y.holds);
     }
 
-sound_with : (second : Bool) (inner : Reader Term) → IsSound inner (Expression second) → IsSound (expression_with second inner) (Expression second)
+sound_with : (second : Bool) (inner : Reader SourceTerm) → IsSound inner (Expression second) → IsSound (expression_with second inner) (Expression second)
 unfolding expression_with
 sound_with second inner h ts e r eq = elim (chosen (let_read ts) _ _ e r eq) [
   | taken u s m f ↦

@@ -4,7 +4,7 @@ use Rattle.fc_lexer.specs.Kinds.{TokenView}
 use Rattle.fc_syntax.specs.Terms.{Declaration, declaration_of}
 use Rattle.fc_parser.specs.Reading.{Read, Got, Not}
 use Rattle.fc_parser.specs.Declarations.{declaration_read}
-use Rattle.fc_parser.specs.Programs.{kinds, Place, First, AfterLanguage, Within, AfterMain, is_second, next, Stands, Follow, ended, then}
+use Rattle.fc_parser.specs.Programs.{kinds, Place, First, AfterLanguage, AfterCeiling, AfterMain, is_second, next_place, Stands, Follow, ended, then}
 use Rattle.fc_parser.specs.Faults.{line_of, last_line, IsOpen, FaultFrom, here, later, missing}
 use Rattle.fc_parser.specs.Heads.{GivesWhole}
 use Rattle.fc_parser.specs.Places.{StandsNever, GivesStanding}
@@ -12,17 +12,17 @@ use Rattle.fc_parser.specs.declared.refused.Refused.{Refused}
 use Rattle.fc_parser.specs.declared.refused.Refused.TheVariants as refused
 use Rattle.fc_parser.proofs.DeclarationsRead.{declaration_sound, declaration_complete}
 
-pub stands : (place : Place) (piece : List TokenView) (d : Declaration) (after : Place) → declaration_read (is_second place) (kinds piece) ≡ Got d [] → next place d ≡ Some after → Stands place piece d after
+pub stands : (place : Place) (piece : List TokenView) (d : Declaration) (after : Place) → declaration_read (is_second place) (kinds piece) ≡ Got d [] → next_place place d ≡ Some after → Stands place piece d after
 stands place piece d after e order = record { spells = (declaration_sound (is_second place) (kinds piece) d [] e).spells; order = order }
 
 pub stands_in_none : (place : Place) (piece : List TokenView) → declaration_read (is_second place) (kinds piece) ≡ Not → StandsNever place piece
 stands_in_none place piece e d after s = let f = declaration_complete (is_second place) (kinds piece) d s.spells in cc
 
-pub stands_elsewhere : (place : Place) (piece : List TokenView) (e : Declaration) → declaration_read (is_second place) (kinds piece) ≡ Got e [] → next place e ≡ None → StandsNever place piece
+pub stands_elsewhere : (place : Place) (piece : List TokenView) (e : Declaration) → declaration_read (is_second place) (kinds piece) ≡ Got e [] → next_place place e ≡ None → StandsNever place piece
 stands_elsewhere place piece e read none d after s =
     let f = declaration_complete (is_second place) (kinds piece) d s.spells in
     let same : e ≡ d = cc in
-    let moved : next place e ≡ Some after = ap (next place) same ∙ s.order in
+    let moved : next_place place e ≡ Some after = ap (next_place place) same ∙ s.order in
     let clash : None ≡ Some after = sym none ∙ moved in
     cc
 
@@ -35,7 +35,7 @@ one_standing place piece d e p q s t =
     let x = declaration_complete (is_second place) (kinds piece) d s.spells in
     let y = declaration_complete (is_second place) (kinds piece) e t.spells in
     let same : d ≡ e = cc in
-    let both : Some p ≡ Some q = sym s.order ∙ ap (next place) same ∙ t.order in
+    let both : Some p ≡ Some q = sym s.order ∙ ap (next_place place) same ∙ t.order in
     (same, cc)
 
 -- a declaration stands here, or none
@@ -43,14 +43,14 @@ data Choice (place : Place) (piece : List TokenView) : Type 0 where
   one : (d : Declaration) (after : Place) → Stands place piece d after → Choice place piece
   nothing : StandsNever place piece → Choice place piece
 
-placed : (place : Place) (piece : List TokenView) (d : Declaration) → declaration_read (is_second place) (kinds piece) ≡ Got d [] → (after : Option Place) → next place d ≡ after → Choice place piece
+placed : (place : Place) (piece : List TokenView) (d : Declaration) → declaration_read (is_second place) (kinds piece) ≡ Got d [] → (after : Option Place) → next_place place d ≡ after → Choice place piece
 placed place piece d e (Some after) order = one d after (stands place piece d after e order)
 placed place piece d e None order = nothing (stands_elsewhere place piece d e order)
 
 chosen : (place : Place) (piece : List TokenView) (x : Read Declaration) → declaration_read (is_second place) (kinds piece) ≡ x → Choice place piece
 chosen place piece (Got d r) e =
     let whole : declaration_read (is_second place) (kinds piece) ≡ Got d [] = e ∙ ap (Got d) (declaration_sound (is_second place) (kinds piece) d r e).all in
-    placed place piece d whole (next place d) refl
+    placed place piece d whole (next_place place d) refl
 chosen place piece Not e = nothing (stands_in_none place piece e)
 
 choose : (place : Place) (piece : List TokenView) → Choice place piece
@@ -154,7 +154,7 @@ pub data Outcome (place : Place) (number line : ℕ) (ps : List (List TokenView)
 at_end : (place : Place) (number line : ℕ) → Outcome place number line []
 at_end First number line = fault number line (missing First number line tt)
 at_end AfterLanguage number line = fault number line (missing AfterLanguage number line tt)
-at_end (Within second) number line = fault number line (missing (Within second) number line tt)
+at_end (AfterCeiling second) number line = fault number line (missing (AfterCeiling second) number line tt)
 at_end (AfterMain second) number line = program [] (ended second)
 
 go_on : (place after : Place) (number line : ℕ) (piece : List TokenView) (more : List (List TokenView)) (d : Declaration) → Stands place piece d after → Outcome after (number + 1) (last_line line piece) more → Outcome place number line (piece ∷ more)

@@ -7,8 +7,8 @@ use Rattle.fc_lexer.specs.declared.tokens.Mark.TheVariants as mark
 use Rattle.fc_values.specs.declared.names.Word.{Word}
 use Rattle.fc_values.specs.declared.names.Word.TheVariants as word
 use Rattle.fc_lexer.specs.Kinds.{TokenKind, MarkOf, WordOf}
-use Rattle.fc_syntax.specs.Terms.{Term, ApplyTerm, Terms, NoTerms, MoreTerms}
-use Rattle.fc_syntax.specs.Text.{text, written, all_written, placed, builtin_strength, builtin_word, left_asks, apply_text, call_text, between_text, with_commas}
+use Rattle.fc_syntax.specs.Terms.{SourceTerm, ApplyTerm, SourceTerms, NoTerms, MoreTerms}
+use Rattle.fc_syntax.specs.Text.{text, written, all_written, operand_text, builtin_strength, builtin_word, left_asks, apply_text, call_text, between_text, with_commas}
 use Rattle.fc_values.specs.BuiltinTypes.{arity}
 use Rattle.fc_syntax.specs.Printable.{IsOfLanguage, count}
 use Rattle.fc_parser.specs.Grammar.{Operation, atom, between, negation, builtin, pair, operator, named, two}
@@ -19,7 +19,7 @@ use Rattle.fc_parser.proofs.PrintedWords.{spelled}
 use Rattle.fc_parser.proofs.PrintedForms.{Printed, PrintedTerm, At, placed_form, as_expression}
 use Rattle.fc_parser.proofs.PrintedArguments.{AllPrinted, opened, texts}
 
-at_operation : (second : Bool) (n : ℕ) (ks : List TokenKind) (e : Term) → 0 < n → At second n ks e → Operation second n ks e
+at_operation : (second : Bool) (n : ℕ) (ks : List TokenKind) (e : SourceTerm) → 0 < n → At second n ks e → Operation second n ks e
 at_operation second zero ks e h p = absurd (omega arith)
 at_operation second (suc n) ks e h p = p
 
@@ -38,15 +38,15 @@ left_asks_high n h = go (n == 3)
     go false = h
 
 -- an operator between its operands
-between_form : (second : Bool) (o : Builtin) (k : TokenKind) (x y : Term) → operator k ≡ Some o → 0 < builtin_strength o → builtin_strength o < 6
+between_form : (second : Bool) (o : Builtin) (k : TokenKind) (x y : SourceTerm) → operator k ≡ Some o → 0 < builtin_strength o → builtin_strength o < 6
     → Inner InSpace (builtin_word o ++ codes " ") (k ∷ []) → Meets InSpace (builtin_word o ++ codes " ") → PrintedTerm second x → PrintedTerm second y
     → Printed (λ ks. Operation second (builtin_strength o) ks (ApplyTerm o (two x y))) (between_text o (written x) (written y))
 between_form second o k x y e low high word starts p q =
     let n : ℕ = builtin_strength o in
     let l = placed_form second (left_asks n) x (left_asks_high n (omega arith)) p in
     let r = placed_form second (n + 1) y (omega arith) q in
-    let left : List ℕ = placed (left_asks n) (written x) in
-    let right : List ℕ = placed (n + 1) (written y) in
+    let left : List ℕ = operand_text (left_asks n) (written x) in
+    let right : List ℕ = operand_text (n + 1) (written y) in
     let behind = join word r.inner r.starts in
     let here = join l.inner (join space behind (meets_more InSpace (builtin_word o ++ codes " ") right starts)) refl in
     record {
@@ -69,7 +69,7 @@ under_six : (n : ℕ) → nat_lt n 6 ≡ true → n < 6
 under_six n h = grind (arith, nat_tests)
 
 -- an operator has two operands
-operator_form : (second : Bool) (o : Builtin) (k : TokenKind) (es : Terms) → operator k ≡ Some o → 0 < builtin_strength o → nat_lt (builtin_strength o) 6 ≡ true
+operator_form : (second : Bool) (o : Builtin) (k : TokenKind) (es : SourceTerms) → operator k ≡ Some o → 0 < builtin_strength o → nat_lt (builtin_strength o) 6 ≡ true
     → Inner InSpace (builtin_word o ++ codes " ") (k ∷ []) → Meets InSpace (builtin_word o ++ codes " ") → count es ≡ 2 → AllPrinted second es
     → Printed (λ ks. Operation second (builtin_strength o) ks (ApplyTerm o es)) (apply_text o (all_written es))
 operator_form second o k NoTerms e low high word starts c ps = absurd (omega arith)
@@ -81,15 +81,15 @@ operator_form second o k (MoreTerms x (MoreTerms y NoTerms)) e low high word sta
 operator_form second o k (MoreTerms x (MoreTerms y (MoreTerms z zs))) e low high word starts c ps = absurd (omega arith)
 
 -- what is no operator is written before its arguments
-call_is : (o : Builtin) (es : Terms) → builtin_strength o ≡ 7 → apply_text o (all_written es) ≡ call_text (builtin_word o) (all_written es)
+call_is : (o : Builtin) (es : SourceTerms) → builtin_strength o ≡ 7 → apply_text o (all_written es) ≡ call_text (builtin_word o) (all_written es)
 call_is o NoTerms e = refl
 call_is o (MoreTerms x NoTerms) e =
-    ap (λ n. if n == 6 then builtin_word o ++ codes " " ++ placed 6 (written x) else call_text (builtin_word o) (written x ∷ [])) e
+    ap (λ n. if n == 6 then builtin_word o ++ codes " " ++ operand_text 6 (written x) else call_text (builtin_word o) (written x ∷ [])) e
 call_is o (MoreTerms x (MoreTerms y NoTerms)) e =
     ap (λ n. if nat_lt n 6 then between_text o (written x) (written y) else call_text (builtin_word o) (written x ∷ written y ∷ [])) e
 call_is o (MoreTerms x (MoreTerms y (MoreTerms z zs))) e = refl
 
-named_form : (second : Bool) (w : Word) (o : Builtin) (es : Terms) → named w ≡ Some o → IsOfLanguage second o → count es ≡ arity o → builtin_strength o ≡ 7
+named_form : (second : Bool) (w : Word) (o : Builtin) (es : SourceTerms) → named w ≡ Some o → IsOfLanguage second o → count es ≡ arity o → builtin_strength o ≡ 7
     → Inner InWord (builtin_word o) (WordOf w ∷ []) → Meets InSpace (builtin_word o) → AllPrinted second es
     → Printed (λ ks. Operation second 7 ks (ApplyTerm o es)) (apply_text o (all_written es))
 named_form second w o es e l c s word starts ps =
@@ -104,7 +104,7 @@ named_form second w o es e l c s word starts ps =
       derives = atom 7 _ (ApplyTerm o es) refl (builtin w o a.ks es e l c a.derives);
     })
 
-not_form : (second : Bool) (es : Terms) → count es ≡ 1 → AllPrinted second es → Printed (λ ks. Operation second 6 ks (ApplyTerm b.Not es)) (apply_text b.Not (all_written es))
+not_form : (second : Bool) (es : SourceTerms) → count es ≡ 1 → AllPrinted second es → Printed (λ ks. Operation second 6 ks (ApplyTerm b.Not es)) (apply_text b.Not (all_written es))
 not_form second NoTerms c ps = absurd (omega arith)
 not_form second (MoreTerms x NoTerms) c ps =
     let p = placed_form second 6 x (omega arith) ps.0 in
@@ -116,7 +116,7 @@ not_form second (MoreTerms x NoTerms) c ps =
     }
 not_form second (MoreTerms x (MoreTerms y ys)) c ps = absurd (omega arith)
 
-pair_form : (second : Bool) (es : Terms) → count es ≡ 2 → AllPrinted second es → Printed (λ ks. Operation second 7 ks (ApplyTerm b.Pair es)) (apply_text b.Pair (all_written es))
+pair_form : (second : Bool) (es : SourceTerms) → count es ≡ 2 → AllPrinted second es → Printed (λ ks. Operation second 7 ks (ApplyTerm b.Pair es)) (apply_text b.Pair (all_written es))
 pair_form second NoTerms c ps = absurd (omega arith)
 pair_form second (MoreTerms x NoTerms) c ps = absurd (omega arith)
 pair_form second (MoreTerms x (MoreTerms y NoTerms)) c ps =
@@ -134,7 +134,7 @@ pair_form second (MoreTerms x (MoreTerms y NoTerms)) c ps =
 pair_form second (MoreTerms x (MoreTerms y (MoreTerms z zs))) c ps = absurd (omega arith)
 
 -- a builtin and as many arguments as it has
-pub apply_form : (second : Bool) (o : Builtin) (es : Terms) → IsOfLanguage second o → count es ≡ arity o → AllPrinted second es → PrintedTerm second (ApplyTerm o es)
+pub apply_form : (second : Bool) (o : Builtin) (es : SourceTerms) → IsOfLanguage second o → count es ≡ arity o → AllPrinted second es → PrintedTerm second (ApplyTerm o es)
 apply_form second b.Add es l c ps = operator_form second b.Add (MarkOf mark.Plus) es refl (omega arith) refl (join plus space tt) refl c ps
 apply_form second b.Sub es l c ps = operator_form second b.Sub (MarkOf mark.Minus) es refl (omega arith) refl (join minus space tt) refl c ps
 apply_form second b.Mul es l c ps = operator_form second b.Mul (MarkOf mark.Star) es refl (omega arith) refl (join star space tt) refl c ps

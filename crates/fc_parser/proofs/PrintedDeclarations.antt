@@ -6,7 +6,7 @@ use Rattle.fc_values.specs.declared.types.InputTy.TheVariants as input
 use Rattle.fc_lexer.specs.declared.tokens.Mark.TheVariants as mark
 use Rattle.fc_values.specs.declared.names.Word.TheVariants as word
 use Rattle.fc_lexer.specs.Kinds.{TokenKind, NumberOf, WordOf, NameOf, MarkOf}
-use Rattle.fc_syntax.specs.Terms.{Term, Parameter, Declaration, LanguageIs, CeilingIs, InputIs, MetricIs, DefIs, MainIs}
+use Rattle.fc_syntax.specs.Terms.{SourceTerm, Parameter, Declaration, LanguageIs, CeilingIs, InputIs, MetricIs, DefIs, MainIs}
 use Rattle.fc_syntax.specs.Text.{text, with_commas, type_text, input_type_text, parameter_text, declaration_text}
 use Rattle.fc_values.specs.Names.{IsName}
 use Rattle.fc_syntax.specs.Printable.{IsNumber, IsInputType, HaveNames, IsExpression, IsInner}
@@ -82,7 +82,7 @@ def_kinds : (ts us vs : List TokenKind) (a c e s : TokenKind)
 def_kinds ts us vs a c e s =
     append_assoc (ts ++ (a ∷ [])) (c ∷ (us ++ (e ∷ vs))) (s ∷ []) ∙ append_assoc ts (a ∷ []) (c ∷ ((us ++ (e ∷ vs)) ++ (s ∷ []))) ∙ ap (λ l. ts ++ (a ∷ c ∷ l)) (append_assoc us (e ∷ vs) (s ∷ []))
 
-def_form : (second : Bool) (f : List ℕ) (ps : List Parameter) (t : ValueType) (e : Term) → IsName f → HaveNames ps → IsExpression second e
+def_form : (second : Bool) (f : List ℕ) (ps : List Parameter) (t : ValueType) (e : SourceTerm) → IsName f → HaveNames ps → IsExpression second e
     → PrintedDeclaration second (DefIs f ps t e)
 def_form second f ps t e h g k =
     let o = opened ps g in
@@ -102,7 +102,7 @@ def_form second f ps t e h g k =
           (DeclarationIs.definition f o.ks p.ks q.ks ps t e o.derives p.derives (as_expression second e q));
     }
 
-pub main_form : (second : Bool) (e : Term) → IsExpression second e → PrintedDeclaration second (MainIs e)
+pub main_form : (second : Bool) (e : SourceTerm) → IsExpression second e → PrintedDeclaration second (MainIs e)
 main_form second e k =
     let q = term_form second e k in
     record {

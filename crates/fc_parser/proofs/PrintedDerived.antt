@@ -6,11 +6,11 @@ use Rattle.fc_lexer.specs.declared.tokens.Mark.TheVariants as mark
 use Rattle.fc_values.specs.declared.names.Word.TheVariants as word
 use Rattle.fc_lexer.specs.Kinds.{TokenKind, WordOf, MarkOf, TokenView}
 use Rattle.fc_lexer.specs.Lexes.{Lexes}
-use Rattle.fc_syntax.specs.Terms.{Term, Terms, Parameter, Declaration, LanguageIs, CeilingIs, InputIs, MetricIs, DefIs, MainIs}
+use Rattle.fc_syntax.specs.Terms.{SourceTerm, SourceTerms, Parameter, Declaration, LanguageIs, CeilingIs, InputIs, MetricIs, DefIs, MainIs}
 use Rattle.fc_values.specs.BuiltinTypes.{arity}
 use Rattle.fc_syntax.specs.Printable.{IsNumber, IsOfLanguage, IsExpression, AreExpressions, HaveNames, IsInner, EndWithMain, BeginWithCeiling, IsPrintable}
 use Rattle.fc_parser.specs.Grammar.{Expression, Operation, Atom, Arguments, MoreArguments, ParameterIs, MoreParametersAre, ParametersAre, DeclarationIs, operator}
-use Rattle.fc_parser.specs.Programs.{kinds, is_semi, onto_piece, pieces, Place, First, AfterLanguage, Within, AfterMain, is_second, next, Follow, Derives}
+use Rattle.fc_parser.specs.Programs.{kinds, is_semi, onto_piece, pieces, Place, First, AfterLanguage, AfterCeiling, AfterMain, is_second, next_place, Follow, Derives}
 use Rattle.fc_parser.proofs.PrintedLexed.{IsNamed, AreNamed, names_lexed}
 
 -- the names among kinds are names
@@ -41,11 +41,11 @@ operator_is second (MarkOf mark.Star) o e = subst (λ p. IsOfLanguage second p �
 operator_is second k o e = cc
 
 mutual
-  of_expression : {second : Bool} {ks : List TokenKind} {e : Term} → Expression second ks e → Named ks → IsExpression second e
+  of_expression : {second : Bool} {ks : List TokenKind} {e : SourceTerm} → Expression second ks e → Named ks → IsExpression second e
   of_expression (Expression.binding x ts us e f d g) h = (h.1.0, of_expression d (front ts _ h.1.1.1), of_expression g (back ts (WordOf word.In ∷ us) h.1.1.1).1)
   of_expression (Expression.operation ts e d) h = of_operation d h
 
-  of_operation : {second : Bool} {n : ℕ} {ks : List TokenKind} {e : Term} → Operation second n ks e → Named ks → IsExpression second e
+  of_operation : {second : Bool} {n : ℕ} {ks : List TokenKind} {e : SourceTerm} → Operation second n ks e → Named ks → IsExpression second e
   of_operation {second} (Operation.between n k o ts us e f p q d g) h =
       let l = operator_is second k o p in
       (l.0, l.1, (of_operation d (front ts _ h), (of_operation g (back ts (k ∷ us) h).1, tt)))
@@ -53,7 +53,7 @@ mutual
   of_operation (Operation.stronger n ts e d) h = of_operation d h
   of_operation (Operation.atom n ts e p d) h = of_atom d h
 
-  of_atom : {second : Bool} {ks : List TokenKind} {e : Term} → Atom second ks e → Named ks → IsExpression second e
+  of_atom : {second : Bool} {ks : List TokenKind} {e : SourceTerm} → Atom second ks e → Named ks → IsExpression second e
   of_atom (Atom.number n l) h = l
   of_atom Atom.yes h = tt
   of_atom Atom.no h = tt
@@ -77,11 +77,11 @@ mutual
   of_atom (Atom.bracket ts e d) h = of_expression d (front ts _ h.1)
   of_atom (Atom.pair ts us e f d g) h = (tt, refl, (of_expression d (front ts _ h.1), (of_expression g (front us _ (back ts _ h.1).1), tt)))
 
-  of_arguments : {second : Bool} {ks : List TokenKind} {es : Terms} → Arguments second ks es → Named ks → AreExpressions second es
+  of_arguments : {second : Bool} {ks : List TokenKind} {es : SourceTerms} → Arguments second ks es → Named ks → AreExpressions second es
   of_arguments Arguments.none h = tt
   of_arguments (Arguments.some ts us e es d g) h = (of_expression d (front ts us h), of_more g (back ts us h))
 
-  of_more : {second : Bool} {ks : List TokenKind} {es : Terms} → MoreArguments second ks es → Named ks → AreExpressions second es
+  of_more : {second : Bool} {ks : List TokenKind} {es : SourceTerms} → MoreArguments second ks es → Named ks → AreExpressions second es
   of_more MoreArguments.no_more h = tt
   of_more (MoreArguments.more ts us e es d g) h = (of_expression d (front ts us h.1), of_more g (back ts us h.1))
 
@@ -117,7 +117,7 @@ of_declaration (DeclarationIs.main ts e d) h = of_expression d (front ts _ h.1.1
 abbrev Prints : Place → List Declaration → Type 0
 Prints First ds = IsPrintable ds
 Prints AfterLanguage ds = BeginWithCeiling true ds
-Prints (Within second) ds = EndWithMain second ds
+Prints (AfterCeiling second) ds = EndWithMain second ds
 Prints (AfterMain second) ds = ds ≡ []
 
 place_is : (a c : Place) (ds : List Declaration) → Some a ≡ Some c → Prints c ds → Prints a ds
@@ -127,28 +127,28 @@ inner_then : (second : Bool) (d : Declaration) (ds : List Declaration) → IsInn
 inner_then second d [] i h = absurd h
 inner_then second d (e ∷ ds) i h = (i, h)
 
-main_then : (second : Bool) (e : Term) (ds : List Declaration) → IsExpression second e → ds ≡ [] → EndWithMain second (MainIs e ∷ ds)
+main_then : (second : Bool) (e : SourceTerm) (ds : List Declaration) → IsExpression second e → ds ≡ [] → EndWithMain second (MainIs e ∷ ds)
 main_then second e ds i h = subst (λ l. EndWithMain second (MainIs e ∷ l)) (sym h) i
 
-of_then : (place after : Place) (d : Declaration) (ds : List Declaration) → next place d ≡ Some after → IsDeclared (is_second place) d → Prints after ds → Prints place (d ∷ ds)
+of_then : (place after : Place) (d : Declaration) (ds : List Declaration) → next_place place d ≡ Some after → IsDeclared (is_second place) d → Prints after ds → Prints place (d ∷ ds)
 of_then First after (LanguageIs n) ds o g h = (g, place_is AfterLanguage after ds o h)
-of_then First after (CeilingIs n) ds o g h = (g, place_is (Within false) after ds o h)
+of_then First after (CeilingIs n) ds o g h = (g, place_is (AfterCeiling false) after ds o h)
 of_then First after (InputIs x t) ds o g h = cc
 of_then First after (MetricIs least greatest) ds o g h = cc
 of_then First after (DefIs f ps t e) ds o g h = cc
 of_then First after (MainIs e) ds o g h = cc
 of_then AfterLanguage after (LanguageIs n) ds o g h = cc
-of_then AfterLanguage after (CeilingIs n) ds o g h = (g, place_is (Within true) after ds o h)
+of_then AfterLanguage after (CeilingIs n) ds o g h = (g, place_is (AfterCeiling true) after ds o h)
 of_then AfterLanguage after (InputIs x t) ds o g h = cc
 of_then AfterLanguage after (MetricIs least greatest) ds o g h = cc
 of_then AfterLanguage after (DefIs f ps t e) ds o g h = cc
 of_then AfterLanguage after (MainIs e) ds o g h = cc
-of_then (Within second) after (LanguageIs n) ds o g h = cc
-of_then (Within second) after (CeilingIs n) ds o g h = cc
-of_then (Within second) after (InputIs x t) ds o g h = inner_then second (InputIs x t) ds g (place_is (Within second) after ds o h)
-of_then (Within second) after (MetricIs least greatest) ds o g h = inner_then second (MetricIs least greatest) ds g (place_is (Within second) after ds o h)
-of_then (Within second) after (DefIs f ps t e) ds o g h = inner_then second (DefIs f ps t e) ds g (place_is (Within second) after ds o h)
-of_then (Within second) after (MainIs e) ds o g h = main_then second e ds g (place_is (AfterMain second) after ds o h)
+of_then (AfterCeiling second) after (LanguageIs n) ds o g h = cc
+of_then (AfterCeiling second) after (CeilingIs n) ds o g h = cc
+of_then (AfterCeiling second) after (InputIs x t) ds o g h = inner_then second (InputIs x t) ds g (place_is (AfterCeiling second) after ds o h)
+of_then (AfterCeiling second) after (MetricIs least greatest) ds o g h = inner_then second (MetricIs least greatest) ds g (place_is (AfterCeiling second) after ds o h)
+of_then (AfterCeiling second) after (DefIs f ps t e) ds o g h = inner_then second (DefIs f ps t e) ds g (place_is (AfterCeiling second) after ds o h)
+of_then (AfterCeiling second) after (MainIs e) ds o g h = main_then second e ds g (place_is (AfterMain second) after ds o h)
 of_then (AfterMain second) after d ds o g h = cc
 
 -- the names of each piece are names

@@ -6,7 +6,7 @@ use Rattle.std.proofs.lemmas.List.Folds.{list_all-append}
 use Rattle.std.proofs.lemmas.Bool.Decides.{nat_tests}
 use Rattle.fc_lexer.specs.declared.bytes.Class.TheVariants.{Digit}
 use Rattle.fc_values.specs.Names.{is_digit, is_letter}
-use Rattle.fc_lexer.specs.Bytes.{begins, is_rest}
+use Rattle.fc_lexer.specs.Bytes.{begun_class, is_rest}
 use Rattle.fc_lexer.specs.Kinds.{NumberOf, token_kind_as, written}
 use Rattle.fc_lexer.specs.Apart.{Breaks, kind_as}
 use Rattle.fc_lexer.proofs.Digits.{digit_begins, digit_no_space, written_more}
@@ -60,7 +60,7 @@ digits_run : (n : ℕ) (ds : List ℕ) → Writes n ds → IsNumber n → Inner 
 digits_run n [] w h = absurd (omega (arith, w.some))
 digits_run n (d ∷ ds) w h =
     let both = and_two (is_digit d) (list_all is_digit ds) w.digits in
-    let c : begins d ≡ Digit = digit_begins d both.0 in
+    let c : begun_class d ≡ Digit = digit_begins d both.0 in
     record {
       run =
           one_piece InWord d ds (NumberOf n ∷ [])

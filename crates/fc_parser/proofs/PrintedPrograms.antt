@@ -7,7 +7,7 @@ use Rattle.fc_syntax.specs.Terms.{Declaration, LanguageIs, CeilingIs, InputIs, M
 use Rattle.fc_syntax.specs.Text.{declaration_text, program_text}
 use Rattle.fc_syntax.specs.Printable.{IsInner, EndWithMain, BeginWithCeiling, IsPrintable}
 use Rattle.fc_parser.specs.Grammar.{DeclarationIs}
-use Rattle.fc_parser.specs.Programs.{kinds, is_semi, onto_piece, pieces, Place, First, AfterLanguage, Within, AfterMain, is_second, next, Follow, ended}
+use Rattle.fc_parser.specs.Programs.{kinds, is_semi, onto_piece, pieces, Place, First, AfterLanguage, AfterCeiling, AfterMain, is_second, next_place, Follow, ended}
 use Rattle.fc_parser.proofs.PrintedRuns.{InWord, InSpace, Free, Meets, Run, run_join, meets_more}
 use Rattle.fc_parser.proofs.PrintedMarks.{semi, line_feed}
 use Rattle.fc_parser.proofs.PrintedDeclarations.{PrintedDeclaration, language_form, ceiling_form, main_form, inner_form}
@@ -53,7 +53,7 @@ first_cut (k ∷ ks) ls (t ∷ ts) n e =
     }
 
 -- Tokens of a declaration, its `;` and what follows.
-follow_more : (place after : Place) (d : Declaration) (ds : List Declaration) (p : PrintedDeclaration (is_second place) d) (ls : List TokenKind) → next place d ≡ Some after
+follow_more : (place after : Place) (d : Declaration) (ds : List Declaration) (p : PrintedDeclaration (is_second place) d) (ls : List TokenKind) → next_place place d ≡ Some after
     → ((tokens : List TokenView) → kinds tokens ≡ ls → Follow after (pieces tokens) ds)
     → (tokens : List TokenView) → kinds tokens ≡ (p.ks ++ (MarkOf mark.Semi ∷ [])) ++ ls → Follow place (pieces tokens) (d ∷ ds)
 follow_more place after d ds p ls o f tokens e =
@@ -83,7 +83,7 @@ line_run second d p =
 line_starts : (second : Bool) (d : Declaration) → PrintedDeclaration second d → Meets InSpace (declaration_text d ++ 59 ∷ 10 ∷ [])
 line_starts second d p = meets_more InSpace (declaration_text d) (59 ∷ 10 ∷ []) p.starts
 
-one_more : (place after : Place) (d : Declaration) (ds : List Declaration) → PrintedDeclaration (is_second place) d → next place d ≡ Some after → PrintedFrom after ds → PrintedFrom place (d ∷ ds)
+one_more : (place after : Place) (d : Declaration) (ds : List Declaration) → PrintedDeclaration (is_second place) d → next_place place d ≡ Some after → PrintedFrom after ds → PrintedFrom place (d ∷ ds)
 one_more place after d ds p o w = record {
   ks = (p.ks ++ (MarkOf mark.Semi ∷ [])) ++ w.ks;
   run = run_join InSpace InSpace (declaration_text d ++ 59 ∷ 10 ∷ []) (program_text ds) (p.ks ++ (MarkOf mark.Semi ∷ [])) w.ks (line_run (is_second place) d p) w.run w.starts;
@@ -94,15 +94,15 @@ one_more place after d ds p o w = record {
 run_as : (a b : List ℕ) (ks ls : List TokenKind) → a ≡ b → ks ≡ ls → Run InSpace a ks → Run InSpace b ls
 run_as a b ks ls p q r = subst (λ l. Run InSpace b l) q (subst (λ l. Run InSpace l ks) p r)
 
-the_last : (second : Bool) (d : Declaration) → PrintedDeclaration second d → next (Within second) d ≡ Some (AfterMain second) → PrintedFrom (Within second) (d ∷ [])
+the_last : (second : Bool) (d : Declaration) → PrintedDeclaration second d → next_place (AfterCeiling second) d ≡ Some (AfterMain second) → PrintedFrom (AfterCeiling second) (d ∷ [])
 the_last second d p o = record {
   ks = (p.ks ++ (MarkOf mark.Semi ∷ [])) ++ [];
   run = run_as _ _ _ _ (sym (append-nil (declaration_text d ++ 59 ∷ 10 ∷ []))) (sym (append-nil (p.ks ++ (MarkOf mark.Semi ∷ [])))) (line_run second d p);
   starts = meets_more InSpace (declaration_text d ++ 59 ∷ 10 ∷ []) [] (line_starts second d p);
-  follows = follow_more (Within second) (AfterMain second) d [] p [] o (no_tokens second);
+  follows = follow_more (AfterCeiling second) (AfterMain second) d [] p [] o (no_tokens second);
 }
 
-inner_order : (second : Bool) (d : Declaration) → IsInner second d → next (Within second) d ≡ Some (Within second)
+inner_order : (second : Bool) (d : Declaration) → IsInner second d → next_place (AfterCeiling second) d ≡ Some (AfterCeiling second)
 inner_order second (LanguageIs n) h = absurd h
 inner_order second (CeilingIs n) h = absurd h
 inner_order second (InputIs x t) h = refl
@@ -110,7 +110,7 @@ inner_order second (MetricIs m n) h = refl
 inner_order second (DefIs f ps t e) h = refl
 inner_order second (MainIs e) h = absurd h
 
-within : (second : Bool) (ds : List Declaration) → EndWithMain second ds → PrintedFrom (Within second) ds
+within : (second : Bool) (ds : List Declaration) → EndWithMain second ds → PrintedFrom (AfterCeiling second) ds
 within second [] h = absurd h
 within second (LanguageIs n ∷ []) h = absurd h
 within second (CeilingIs n ∷ []) h = absurd h
@@ -118,12 +118,12 @@ within second (InputIs x t ∷ []) h = absurd h
 within second (MetricIs m n ∷ []) h = absurd h
 within second (DefIs f ps t e ∷ []) h = absurd h
 within second (MainIs e ∷ []) h = the_last second (MainIs e) (main_form second e h) refl
-within second (d ∷ d' ∷ ds) h = one_more (Within second) (Within second) d (d' ∷ ds) (inner_form second d h.0) (inner_order second d h.0) (within second (d' ∷ ds) h.1)
+within second (d ∷ d' ∷ ds) h = one_more (AfterCeiling second) (AfterCeiling second) d (d' ∷ ds) (inner_form second d h.0) (inner_order second d h.0) (within second (d' ∷ ds) h.1)
 
 after_language : (ds : List Declaration) → BeginWithCeiling true ds → PrintedFrom AfterLanguage ds
 after_language [] h = absurd h
 after_language (LanguageIs n ∷ ds) h = absurd h
-after_language (CeilingIs n ∷ ds) h = one_more AfterLanguage (Within true) (CeilingIs n) ds (ceiling_form true n h.0) refl (within true ds h.1)
+after_language (CeilingIs n ∷ ds) h = one_more AfterLanguage (AfterCeiling true) (CeilingIs n) ds (ceiling_form true n h.0) refl (within true ds h.1)
 after_language (InputIs x t ∷ ds) h = absurd h
 after_language (MetricIs m n ∷ ds) h = absurd h
 after_language (DefIs f ps t e ∷ ds) h = absurd h
@@ -132,7 +132,7 @@ after_language (MainIs e ∷ ds) h = absurd h
 pub program_form : (ds : List Declaration) → IsPrintable ds → PrintedFrom First ds
 program_form [] h = absurd h
 program_form (LanguageIs n ∷ ds) h = one_more First AfterLanguage (LanguageIs n) ds (language_form false n h.0) refl (after_language ds h.1)
-program_form (CeilingIs n ∷ ds) h = one_more First (Within false) (CeilingIs n) ds (ceiling_form false n h.0) refl (within false ds h.1)
+program_form (CeilingIs n ∷ ds) h = one_more First (AfterCeiling false) (CeilingIs n) ds (ceiling_form false n h.0) refl (within false ds h.1)
 program_form (InputIs x t ∷ ds) h = absurd h
 program_form (MetricIs m n ∷ ds) h = absurd h
 program_form (DefIs f ps t e ∷ ds) h = absurd h

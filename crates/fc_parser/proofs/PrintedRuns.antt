@@ -3,7 +3,7 @@ use Rattle.std.proofs.Common.{ℕ, ◌≡◌, true, false, ◌||◌, ◌==◌, L
 use Rattle.std.specs.List.{list_any}
 use Rattle.std.proofs.lemmas.List.Folds.{list_any-append}
 use Rattle.fc_values.specs.Names.{is_name_byte}
-use Rattle.fc_lexer.specs.Bytes.{is_space, is_rest, begins}
+use Rattle.fc_lexer.specs.Bytes.{is_space, is_rest, begun_class}
 use Rattle.fc_lexer.specs.Kinds.{TokenKind, token_kind}
 use Rattle.fc_lexer.specs.Apart.{Breaks, Piece, StandApart, kind_as, kinds_of, text_of}
 use Rattle.fc_parser.specs.Programs.{is_semi}
@@ -108,8 +108,8 @@ pub as_is : {e : End} {a b : List ℕ} {ks ls : List TokenKind} → a ≡ b → 
 as_is {e} {a} {b} {ks} {ls} p q r = subst (λ l. Inner e b l) q (subst (λ l. Inner e l ks) p r)
 
 -- one piece
-pub one_piece : (end : End) (first : ℕ) (others : List ℕ) (ks : List TokenKind) → is_rest (begins first) others ≡ true
-    → ((text : List ℕ) → Follows end text → Breaks (begins first) others text) → kind_as (token_kind (first ∷ others)) ≡ ks → Run end (first ∷ others) ks
+pub one_piece : (end : End) (first : ℕ) (others : List ℕ) (ks : List TokenKind) → is_rest (begun_class first) others ≡ true
+    → ((text : List ℕ) → Follows end text → Breaks (begun_class first) others text) → kind_as (token_kind (first ∷ others)) ≡ ks → Run end (first ∷ others) ks
 one_piece end first others ks r b k = record {
   run = record { first = first; others = others } ∷ [];
   text_is = ap (λ l. first ∷ l) (append-nil others);

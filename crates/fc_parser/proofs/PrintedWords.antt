@@ -5,7 +5,7 @@ use Rattle.fc_values.specs.declared.names.Word.{Word}
 use Rattle.fc_values.specs.declared.names.Word.TheVariants as word
 use Rattle.fc_lexer.specs.declared.bytes.Class.TheVariants.{Letter}
 use Rattle.fc_values.specs.Names.{is_name_byte}
-use Rattle.fc_lexer.specs.Bytes.{begins, is_rest}
+use Rattle.fc_lexer.specs.Bytes.{begun_class, is_rest}
 use Rattle.fc_lexer.specs.Kinds.{TokenKind, WordOf, token_kind_as, word_or_name_of}
 use Rattle.fc_values.specs.Names.{spelling, word_of}
 use Rattle.fc_lexer.specs.Apart.{Breaks, kind_as}
@@ -16,7 +16,7 @@ breaks_letter others [] h = tt
 breaks_letter others (c ∷ text) h = h
 
 -- letters, which are a word or a name
-pub letters_run : (first : ℕ) (others : List ℕ) (k : TokenKind) → begins first ≡ Letter → list_all is_name_byte others ≡ true
+pub letters_run : (first : ℕ) (others : List ℕ) (k : TokenKind) → begun_class first ≡ Letter → list_all is_name_byte others ≡ true
     → word_or_name_of (first ∷ others) ≡ k → Run InWord (first ∷ others) (k ∷ [])
 letters_run first others k c r e =
     one_piece InWord first others (k ∷ [])
@@ -24,13 +24,13 @@ letters_run first others k c r e =
     (λ text f. subst (λ class. Breaks class others text) (sym c) (breaks_letter others text f))
     (ap (λ class. kind_as (token_kind_as class (first ∷ others) others)) c ∙ ap (λ kind. kind ∷ []) e)
 
-word_run : (first : ℕ) (others : List ℕ) (w : Word) → begins first ≡ Letter → list_all is_name_byte others ≡ true
+word_run : (first : ℕ) (others : List ℕ) (w : Word) → begun_class first ≡ Letter → list_all is_name_byte others ≡ true
     → word_or_name_of (first ∷ others) ≡ WordOf w → Inner InWord (first ∷ others) (WordOf w ∷ [])
 word_run first others w c r e = record { run = letters_run first others (WordOf w) c r e; no_semi = refl }
 
 -- a word as it is written
 pub spelled : (w : Word) → Inner InWord (spelling w) (WordOf w ∷ [])
-unfolding begins word_of
+unfolding begun_class word_of
 spelled word.Ceiling = word_run _ _ word.Ceiling refl refl refl
 spelled word.Input = word_run _ _ word.Input refl refl refl
 spelled word.Metric = word_run _ _ word.Metric refl refl refl

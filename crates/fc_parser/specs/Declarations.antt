@@ -6,7 +6,7 @@ use Rattle.fc_lexer.specs.declared.tokens.Mark.TheVariants as mark
 use Rattle.fc_values.specs.declared.names.Word.{Word}
 use Rattle.fc_values.specs.declared.names.Word.TheVariants as word
 use Rattle.fc_lexer.specs.Kinds.{NumberOf, WordOf, NameOf, MarkOf}
-use Rattle.fc_syntax.specs.Terms.{Term, Declaration, LanguageIs, CeilingIs, InputIs, MetricIs, DefIs, MainIs}
+use Rattle.fc_syntax.specs.Terms.{SourceTerm, Declaration, LanguageIs, CeilingIs, InputIs, MetricIs, DefIs, MainIs}
 use Rattle.fc_parser.specs.Reading.{Got, Not, Reader, ◌>>=◌}
 use Rattle.fc_parser.specs.Heads.{number_read, finish_read}
 use Rattle.fc_parser.specs.Types.{type_read, parameters_read}
@@ -30,7 +30,7 @@ input_type_read (WordOf word.Int ∷ rest) = range_read rest >>= λ r after. Got
 input_type_read _ = Not
 
 -- = expr ;
-unfoldable pub body_read : Bool → Reader Term
+unfoldable pub body_read : Bool → Reader SourceTerm
 body_read second ts =
     mark_read mark.Is ts >>= λ _ a. expression_read second a >>= λ e b. finish_read b >>= λ _ rest. Got e rest
 

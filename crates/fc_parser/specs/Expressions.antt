@@ -15,9 +15,9 @@ use Rattle.fc_values.specs.declared.names.Word.TheVariants as word
 use Rattle.fc_lexer.specs.declared.tokens.Token.{Token}
 use Rattle.fc_lexer.specs.Kinds.{TokenKind, NumberOf, WordOf, NameOf, MarkOf, tokens_of}
 use Rattle.fc_syntax.specs.declared.tree.Expr.{Expr}
-use Rattle.fc_syntax.specs.Terms.{Term, IntTerm, TruthTerm, VarTerm, UidTerm, NbrLinkTerm}
+use Rattle.fc_syntax.specs.Terms.{SourceTerm, IntTerm, TruthTerm, VarTerm, UidTerm, NbrLinkTerm}
 use Rattle.fc_syntax.specs.Terms.{SenseTerm, ApplyTerm, NbrTerm, RepTerm, ShareTerm, IfTerm}
-use Rattle.fc_syntax.specs.Terms.{LetTerm, CallTerm, Terms, NoTerms, MoreTerms, term_of, terms}
+use Rattle.fc_syntax.specs.Terms.{LetTerm, CallTerm, SourceTerms, NoTerms, MoreTerms, term_of, terms}
 use Rattle.fc_syntax.specs.Text.{builtin_strength}
 use Rattle.fc_values.specs.BuiltinTypes.{arity}
 use Rattle.fc_syntax.specs.Printable.{count}
@@ -98,26 +98,26 @@ binder_read ts =
     Got x e
 
 -- an expression between two marks
-unfoldable pub enclosed_with : Mark → Mark → Reader Term → Reader Term
+unfoldable pub enclosed_with : Mark → Mark → Reader SourceTerm → Reader SourceTerm
 enclosed_with opening closing inner ts =
     mark_read opening ts >>= λ _ a. inner a >>= λ e b. mark_read closing b >>= λ _ c. Got e c
 
 -- { , expr }
-unfoldable pub more_with : Reader Term → ℕ → Reader Terms
+unfoldable pub more_with : Reader SourceTerm → ℕ → Reader SourceTerms
 more_with inner zero ts = Got NoTerms ts
 more_with inner (suc k) ts =
     if_got (mark_read mark.Comma ts)
     (λ _ a. inner a >>= λ e b. more_with inner k b >>= λ es c. Got (MoreTerms e es) c) (Got NoTerms ts)
 
 -- [ expr { , expr } ] )
-unfoldable pub arguments_with : Reader Term → Reader Terms
+unfoldable pub arguments_with : Reader SourceTerm → Reader SourceTerms
 arguments_with inner ts =
     if_got (mark_read mark.CloseRound ts) (λ _ a. Got NoTerms a)
     (inner ts >>= λ e a. more_with inner (length a) a >>= λ es b. mark_read mark.CloseRound b
     >>= λ _ c. Got (MoreTerms e es) c)
 
 -- a name, which is a variable or called
-unfoldable pub named_with : Reader Term → List ℕ → Reader Term
+unfoldable pub named_with : Reader SourceTerm → List ℕ → Reader SourceTerm
 named_with inner x ts =
     if_got (mark_read mark.OpenRound ts) (λ _ a. arguments_with inner a >>= λ es b. Got (CallTerm x es) b)
     (Got (VarTerm x) ts)
@@ -128,21 +128,21 @@ has_builtin second b.Rise = second
 has_builtin second _ = true
 
 -- a builtin, where the arguments are as many as it has
-abbrev pub applied : Builtin → Terms → Reader Term
+abbrev pub applied : Builtin → SourceTerms → Reader SourceTerm
 applied o es ts = if count es == arity o then Got (ApplyTerm o es) ts else Not
 
 -- a builtin's arguments
-unfoldable pub builtin_with : Bool → Reader Term → Option Builtin → Reader Term
+unfoldable pub builtin_with : Bool → Reader SourceTerm → Option Builtin → Reader SourceTerm
 builtin_with second inner None ts = Not
 builtin_with second inner (Some o) ts =
     if has_builtin second o then (mark_read mark.OpenRound ts >>= λ _ a. arguments_with inner a >>= applied o) else Not
 
-abbrev pub fold_term : Bool → Term → List ℕ → Term → Term
+abbrev pub fold_term : Bool → SourceTerm → List ℕ → SourceTerm → SourceTerm
 fold_term true e x f = ShareTerm e x f
 fold_term false e x f = RepTerm e x f
 
 -- ( expr ) { ( NAME ) => expr }
-unfoldable pub fold_with : Bool → Reader Term → Reader Term
+unfoldable pub fold_with : Bool → Reader SourceTerm → Reader SourceTerm
 fold_with shared inner ts =
     enclosed_with mark.OpenRound mark.CloseRound inner ts >>= λ e a.
     binder_read a >>= λ x b.
@@ -151,7 +151,7 @@ fold_with shared inner ts =
     Got (fold_term shared e x f) d
 
 -- ( expr ) { expr } { expr }
-unfoldable pub choice_with : Reader Term → Reader Term
+unfoldable pub choice_with : Reader SourceTerm → Reader SourceTerm
 choice_with inner ts =
     enclosed_with mark.OpenRound mark.CloseRound inner ts >>= λ c a.
     enclosed_with mark.OpenCurly mark.CloseCurly inner a >>= λ e d.
@@ -159,14 +159,14 @@ choice_with inner ts =
     Got (IfTerm c e f) r
 
 -- expr ) or expr , expr )
-unfoldable pub bracketed_with : Reader Term → Reader Term
+unfoldable pub bracketed_with : Reader SourceTerm → Reader SourceTerm
 bracketed_with inner ts =
     inner ts >>= λ e a. if_got (mark_read mark.Comma a)
     (λ _ c. inner c >>= λ f d. mark_read mark.CloseRound d >>= λ _ r. Got (ApplyTerm b.Pair (two e f)) r)
     (mark_read mark.CloseRound a >>= λ _ r. Got e r)
 
 -- what follows a word
-unfoldable pub word_with : Bool → Reader Term → Word → Reader Term
+unfoldable pub word_with : Bool → Reader SourceTerm → Word → Reader SourceTerm
 word_with second inner word.True ts = Got (TruthTerm true) ts
 word_with second inner word.False ts = Got (TruthTerm false) ts
 word_with second inner word.Uid ts = Got UidTerm ts
@@ -179,7 +179,7 @@ word_with second inner word.If ts = choice_with inner ts
 word_with second inner w ts = builtin_with second inner (named w) ts
 
 -- atom
-unfoldable pub atom_with : Bool → Reader Term → Reader Term
+unfoldable pub atom_with : Bool → Reader SourceTerm → Reader SourceTerm
 atom_with second inner [] = Not
 atom_with second inner (NumberOf n ∷ ts) = if nat_le n GREATEST then Got (IntTerm n) ts else Not
 atom_with second inner (WordOf w ∷ ts) = word_with second inner w ts
@@ -196,16 +196,16 @@ unfoldable pub after_nots : List TokenKind → List TokenKind
 after_nots (WordOf word.Not ∷ ts) = after_nots ts
 after_nots ts = ts
 
-abbrev pub negated : ℕ → Term → Term
+abbrev pub negated : ℕ → SourceTerm → SourceTerm
 negated zero e = e
 negated (suc n) e = ApplyTerm b.Not (one (negated n e))
 
 -- unary
-unfoldable pub unary_with : Reader Term → Reader Term
+unfoldable pub unary_with : Reader SourceTerm → Reader SourceTerm
 unary_with atom ts = atom (after_nots ts) >>= λ e a. Got (negated (count_nots ts) e) a
 
 -- at most so many operators of a strength, each with its right operand, after what stands left of them
-unfoldable pub chain_with : ℕ → Reader Term → ℕ → Term → Reader Term
+unfoldable pub chain_with : ℕ → Reader SourceTerm → ℕ → SourceTerm → Reader SourceTerm
 chain_with n below zero e ts = Got e ts
 chain_with n below (suc k) e ts =
     if_got (operator_read n ts) (λ o a. below a >>= λ f c. chain_with n below k (ApplyTerm o (two e f)) c) (Got e ts)
@@ -215,42 +215,42 @@ abbrev pub turns : ℕ → ℕ → ℕ
 turns n most = if n == 3 then 1 else most
 
 -- operators of a strength between operands that are stronger
-unfoldable pub level_with : ℕ → Reader Term → Reader Term
+unfoldable pub level_with : ℕ → Reader SourceTerm → Reader SourceTerm
 level_with n below ts = below ts >>= λ e a. chain_with n below (turns n (length a)) e a
 
 -- an expression at a place that asks a strength so far below an atom's
-unfoldable pub operations_left : Reader Term → ℕ → Reader Term
+unfoldable pub operations_left : Reader SourceTerm → ℕ → Reader SourceTerm
 operations_left atom zero = atom
 operations_left atom (suc zero) = unary_with atom
 operations_left atom (suc (suc m)) = level_with (5 - m) (operations_left atom (suc m))
 
 -- an expression at a place that asks this strength
-unfoldable pub operations_with : Reader Term → ℕ → Reader Term
+unfoldable pub operations_with : Reader SourceTerm → ℕ → Reader SourceTerm
 operations_with atom n = operations_left atom (7 - n)
 
 -- NAME = expr in
-unfoldable pub binding_with : Reader Term → Reader (List ℕ × Term)
+unfoldable pub binding_with : Reader SourceTerm → Reader (List ℕ × SourceTerm)
 binding_with inner ts =
     name_read ts >>= λ x a. mark_read mark.Is a >>= λ _ b. inner b >>= λ e c. in_read c >>= λ _ d. Got (x, e) d
 
 -- a body behind these bindings
-abbrev pub nested : List (Name × Expr) → Term → Term
+abbrev pub nested : List (Name × Expr) → SourceTerm → SourceTerm
 nested [] f = f
 nested (p ∷ ps) f = LetTerm p.0.text.items (term_of p.1) (nested ps f)
 
 -- expr, where the parts are read by another reader
-unfoldable pub expression_with : Bool → Reader Term → Reader Term
+unfoldable pub expression_with : Bool → Reader SourceTerm → Reader SourceTerm
 expression_with second inner ts =
     if_got (let_read ts) (λ _ a. binding_with inner a >>= λ p c. inner c >>= λ f r. Got (LetTerm p.0 p.1 f) r)
     (operations_with (atom_with second inner) 1 ts)
 
 -- expr, with a budget of expressions within one another; the flag says whether it is of language 2
-unfoldable pub expression_at : Bool → ℕ → Reader Term
+unfoldable pub expression_at : Bool → ℕ → Reader SourceTerm
 expression_at second zero ts = Not
 expression_at second (suc n) ts = expression_with second (expression_at second n) ts
 
 -- expr, of a language
-unfoldable pub expression_read : Bool → List TokenKind → Read Term
+unfoldable pub expression_read : Bool → List TokenKind → Read SourceTerm
 expression_read second ts = expression_at second (length ts + 1) ts
 
 -- kinds that go on with no operator of this strength or a greater one, and with no `(`
@@ -271,17 +271,17 @@ abbrev pub Stops : List TokenKind → Type 0
 Stops ts = StopsBelow 1 ts
 
 -- What a function returned is what reading gives, unless memory ran out.
-abbrev pub GivesExpression : Result (Expr × Bor (List Token)) Refused → Read Term → Type 0
+abbrev pub GivesExpression : Result (Expr × Bor (List Token)) Refused → Read SourceTerm → Type 0
 GivesExpression (Ok x) read = read ≡ Got (term_of x.0) (kinds_of x.1.now)
 GivesExpression (Err refused.Outside) read = read ≡ Not
 GivesExpression (Err refused.Memory) read = Unit {0}
 
-abbrev pub GivesArguments : Result (Vec Expr Global × Bor (List Token)) Refused → Read Terms → Type 0
+abbrev pub GivesArguments : Result (Vec Expr Global × Bor (List Token)) Refused → Read SourceTerms → Type 0
 GivesArguments (Ok x) read = read ≡ Got (terms (map term_of x.0.items)) (kinds_of x.1.now)
 GivesArguments (Err refused.Outside) read = read ≡ Not
 GivesArguments (Err refused.Memory) read = Unit {0}
 
-abbrev pub GivesBinding : Result ((Name × Expr) × Bor (List Token)) Refused → Read (List ℕ × Term) → Type 0
+abbrev pub GivesBinding : Result ((Name × Expr) × Bor (List Token)) Refused → Read (List ℕ × SourceTerm) → Type 0
 GivesBinding (Ok x) read = read ≡ Got (x.0.0.text.items, term_of x.0.1) (kinds_of x.1.now)
 GivesBinding (Err refused.Outside) read = read ≡ Not
 GivesBinding (Err refused.Memory) read = Unit {0}

@@ -20,8 +20,8 @@ use Rattle.fc_lexer.specs.declared.tokens.Mark.TheVariants as mark
 use Rattle.fc_values.specs.declared.names.Word.{Word}
 use Rattle.fc_values.specs.declared.names.Word.TheVariants as word
 use Rattle.fc_lexer.specs.Kinds.{TokenKind, NumberOf, WordOf, NameOf, MarkOf}
-use Rattle.fc_syntax.specs.Terms.{Term, IntTerm, TruthTerm, VarTerm, UidTerm, NbrLinkTerm, SenseTerm, ApplyTerm}
-use Rattle.fc_syntax.specs.Terms.{NbrTerm, RepTerm, ShareTerm, IfTerm, LetTerm, CallTerm, Terms, NoTerms, MoreTerms}
+use Rattle.fc_syntax.specs.Terms.{SourceTerm, IntTerm, TruthTerm, VarTerm, UidTerm, NbrLinkTerm, SenseTerm, ApplyTerm}
+use Rattle.fc_syntax.specs.Terms.{NbrTerm, RepTerm, ShareTerm, IfTerm, LetTerm, CallTerm, SourceTerms, NoTerms, MoreTerms}
 use Rattle.fc_syntax.specs.Terms.{Parameter, Declaration, LanguageIs, CeilingIs, InputIs, MetricIs, DefIs, MainIs}
 use Rattle.fc_syntax.specs.Text.{builtin_strength, left_asks}
 use Rattle.fc_values.specs.BuiltinTypes.{arity}
@@ -54,34 +54,34 @@ named word.Rise = Some b.Rise
 named _ = None
 
 -- one expression, and two
-abbrev pub one : Term → Terms
+abbrev pub one : SourceTerm → SourceTerms
 one e = MoreTerms e NoTerms
 
-abbrev pub two : Term → Term → Terms
+abbrev pub two : SourceTerm → SourceTerm → SourceTerms
 two e f = MoreTerms e (MoreTerms f NoTerms)
 
 -- The expressions of a language; the flag says whether it is language 2.
 mutual
   -- expr
-  pub data Expression (second : Bool) : List TokenKind → Term → Type 0 where
-    binding : (x : List ℕ) (ts us : List TokenKind) (e f : Term) → Expression second ts e → Expression second us f
+  pub data Expression (second : Bool) : List TokenKind → SourceTerm → Type 0 where
+    binding : (x : List ℕ) (ts us : List TokenKind) (e f : SourceTerm) → Expression second ts e → Expression second us f
         → Expression second (WordOf word.Let ∷ NameOf x ∷ MarkOf mark.Is
         ∷ (ts ++ (WordOf word.In ∷ us))) (LetTerm x e f)
-    operation : (ts : List TokenKind) (e : Term) → Operation second 1 ts e → Expression second ts e
+    operation : (ts : List TokenKind) (e : SourceTerm) → Operation second 1 ts e → Expression second ts e
 
   -- An expression at a place that asks this strength: disj 1, conj 2, comp 3, sum 4, prod 5, unary 6, atom 7. What
   -- stands left of an operator may be of the operator's own strength, but at a comparison it is stronger.
-  pub data Operation (second : Bool) : ℕ → List TokenKind → Term → Type 0 where
-    between : (n : ℕ) (k : TokenKind) (o : Builtin) (ts us : List TokenKind) (e f : Term) → operator k ≡ Some o
+  pub data Operation (second : Bool) : ℕ → List TokenKind → SourceTerm → Type 0 where
+    between : (n : ℕ) (k : TokenKind) (o : Builtin) (ts us : List TokenKind) (e f : SourceTerm) → operator k ≡ Some o
         → builtin_strength o ≡ n
         → Operation second (left_asks n) ts e → Operation second (suc n) us f
         → Operation second n (ts ++ (k ∷ us)) (ApplyTerm o (two e f))
-    negation : (n : ℕ) (ts : List TokenKind) (e : Term) → n ≡ 6 → Operation second n ts e
+    negation : (n : ℕ) (ts : List TokenKind) (e : SourceTerm) → n ≡ 6 → Operation second n ts e
         → Operation second n (WordOf word.Not ∷ ts) (ApplyTerm b.Not (one e))
-    stronger : (n : ℕ) (ts : List TokenKind) (e : Term) → Operation second (suc n) ts e → Operation second n ts e
-    atom : (n : ℕ) (ts : List TokenKind) (e : Term) → n ≡ 7 → Atom second ts e → Operation second n ts e
+    stronger : (n : ℕ) (ts : List TokenKind) (e : SourceTerm) → Operation second (suc n) ts e → Operation second n ts e
+    atom : (n : ℕ) (ts : List TokenKind) (e : SourceTerm) → n ≡ 7 → Atom second ts e → Operation second n ts e
 
-  pub data Atom (second : Bool) : List TokenKind → Term → Type 0 where
+  pub data Atom (second : Bool) : List TokenKind → SourceTerm → Type 0 where
     number : (n : ℕ) → IsNumber n → Atom second (NumberOf n ∷ []) (IntTerm n)
     yes : Atom second (WordOf word.True ∷ []) (TruthTerm true)
     no : Atom second (WordOf word.False ∷ []) (TruthTerm false)
@@ -90,51 +90,54 @@ mutual
     variable : (x : List ℕ) → Atom second (NameOf x ∷ []) (VarTerm x)
     sense : (x : List ℕ) → Atom second (WordOf word.Sense ∷ NameOf x ∷ []) (SenseTerm x)
     -- f ( [ expr { , expr } ] )
-    call : (f : List ℕ) (ts : List TokenKind) (es : Terms) → Arguments second ts es
+    call : (f : List ℕ) (ts : List TokenKind) (es : SourceTerms) → Arguments second ts es
         → Atom second (NameOf f ∷ MarkOf mark.OpenRound ∷ (ts ++ (MarkOf mark.CloseRound ∷ []))) (CallTerm f es)
     -- a builtin's word, and as many arguments as it has
-    builtin : (w : Word) (o : Builtin) (ts : List TokenKind) (es : Terms) → named w ≡ Some o → IsOfLanguage second o
+    builtin : (w : Word) (o : Builtin) (ts : List TokenKind) (es : SourceTerms) → named w ≡ Some o
+        → IsOfLanguage second o
         → count es ≡ arity o → Arguments second ts es
         → Atom second (WordOf w ∷ MarkOf mark.OpenRound ∷ (ts ++ (MarkOf mark.CloseRound ∷ []))) (ApplyTerm o es)
     -- nbr { expr }
-    nbr : (ts : List TokenKind) (e : Term) → Expression second ts e
+    nbr : (ts : List TokenKind) (e : SourceTerm) → Expression second ts e
         → Atom second (WordOf word.Nbr ∷ MarkOf mark.OpenCurly ∷ (ts ++ (MarkOf mark.CloseCurly ∷ []))) (NbrTerm e)
     -- rep ( expr ) { ( NAME ) => expr }
-    rep : (x : List ℕ) (ts us : List TokenKind) (e f : Term) → Expression second ts e → Expression second us f
+    rep : (x : List ℕ) (ts us : List TokenKind) (e f : SourceTerm) → Expression second ts e → Expression second us f
         → Atom second (WordOf word.Rep ∷ MarkOf mark.OpenRound
         ∷ (ts ++ (MarkOf mark.CloseRound ∷ MarkOf mark.OpenCurly ∷ MarkOf mark.OpenRound ∷ NameOf x
         ∷ MarkOf mark.CloseRound ∷ MarkOf mark.Arrow ∷ (us ++ (MarkOf mark.CloseCurly ∷ []))))) (RepTerm e x f)
     -- share ( expr ) { ( NAME ) => expr }
-    share : (x : List ℕ) (ts us : List TokenKind) (e f : Term) → second ≡ true → Expression second ts e
+    share : (x : List ℕ) (ts us : List TokenKind) (e f : SourceTerm) → second ≡ true → Expression second ts e
         → Expression second us f
         → Atom second (WordOf word.Share ∷ MarkOf mark.OpenRound
         ∷ (ts ++ (MarkOf mark.CloseRound ∷ MarkOf mark.OpenCurly ∷ MarkOf mark.OpenRound ∷ NameOf x
         ∷ MarkOf mark.CloseRound ∷ MarkOf mark.Arrow ∷ (us ++ (MarkOf mark.CloseCurly ∷ []))))) (ShareTerm e x f)
     -- if ( expr ) { expr } { expr }
-    choice : (ts us vs : List TokenKind) (c e f : Term) → Expression second ts c → Expression second us e
+    choice : (ts us vs : List TokenKind) (c e f : SourceTerm) → Expression second ts c → Expression second us e
         → Expression second vs f
         → Atom second (WordOf word.If ∷ MarkOf mark.OpenRound
         ∷ (ts ++ (MarkOf mark.CloseRound ∷ MarkOf mark.OpenCurly
         ∷ (us ++ (MarkOf mark.CloseCurly ∷ MarkOf mark.OpenCurly
         ∷ (vs ++ (MarkOf mark.CloseCurly ∷ []))))))) (IfTerm c e f)
     -- ( expr ), which leaves no trace
-    bracket : (ts : List TokenKind) (e : Term) → Expression second ts e
+    bracket : (ts : List TokenKind) (e : SourceTerm) → Expression second ts e
         → Atom second (MarkOf mark.OpenRound ∷ (ts ++ (MarkOf mark.CloseRound ∷ []))) e
     -- ( expr , expr )
-    pair : (ts us : List TokenKind) (e f : Term) → Expression second ts e → Expression second us f
+    pair : (ts us : List TokenKind) (e f : SourceTerm) → Expression second ts e → Expression second us f
         → Atom second (MarkOf mark.OpenRound
         ∷ (ts ++ (MarkOf mark.Comma ∷ (us ++ (MarkOf mark.CloseRound ∷ []))))) (ApplyTerm b.Pair (two e f))
 
   -- [ expr { , expr } ]
-  pub data Arguments (second : Bool) : List TokenKind → Terms → Type 0 where
+  pub data Arguments (second : Bool) : List TokenKind → SourceTerms → Type 0 where
     none : Arguments second [] NoTerms
-    some : (ts us : List TokenKind) (e : Term) (es : Terms) → Expression second ts e → MoreArguments second us es
+    some : (ts us : List TokenKind) (e : SourceTerm) (es : SourceTerms) → Expression second ts e
+        → MoreArguments second us es
         → Arguments second (ts ++ us) (MoreTerms e es)
 
   -- { , expr }
-  pub data MoreArguments (second : Bool) : List TokenKind → Terms → Type 0 where
+  pub data MoreArguments (second : Bool) : List TokenKind → SourceTerms → Type 0 where
     no_more : MoreArguments second [] NoTerms
-    more : (ts us : List TokenKind) (e : Term) (es : Terms) → Expression second ts e → MoreArguments second us es
+    more : (ts us : List TokenKind) (e : SourceTerm) (es : SourceTerms) → Expression second ts e
+        → MoreArguments second us es
         → MoreArguments second (MarkOf mark.Comma ∷ (ts ++ us)) (MoreTerms e es)
 
 -- local
@@ -187,11 +190,11 @@ pub data DeclarationIs (second : Bool) : List TokenKind → Declaration → Type
       → DeclarationIs second (WordOf word.Metric ∷ NumberOf least ∷ MarkOf mark.Dots ∷ NumberOf greatest
       ∷ MarkOf mark.Semi ∷ []) (MetricIs least greatest)
   -- def NAME ( parameters ) : type = expr ;
-  definition : (f : List ℕ) (ts us vs : List TokenKind) (ps : List Parameter) (t : ValueType) (e : Term)
+  definition : (f : List ℕ) (ts us vs : List TokenKind) (ps : List Parameter) (t : ValueType) (e : SourceTerm)
       → ParametersAre ts ps → TypeIs us t → Expression second vs e
       → DeclarationIs second (WordOf word.Def ∷ NameOf f ∷ MarkOf mark.OpenRound
       ∷ (ts ++ (MarkOf mark.CloseRound ∷ MarkOf mark.Colon
       ∷ (us ++ (MarkOf mark.Is ∷ (vs ++ (MarkOf mark.Semi ∷ []))))))) (DefIs f ps t e)
   -- main = expr ;
-  main : (ts : List TokenKind) (e : Term) → Expression second ts e
+  main : (ts : List TokenKind) (e : SourceTerm) → Expression second ts e
       → DeclarationIs second (WordOf word.Main ∷ MarkOf mark.Is ∷ (ts ++ (MarkOf mark.Semi ∷ []))) (MainIs e)

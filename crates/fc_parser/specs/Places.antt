@@ -11,7 +11,7 @@ use Rattle.fc_parser.specs.declared.places.Position.TheVariants as position
 use Rattle.fc_parser.specs.declared.faults.ParseFault.{ParseFault}
 use Rattle.fc_parser.specs.declared.faults.ParseFault.TheVariants as fault
 use Rattle.fc_parser.specs.Limits.{limit_passed, TooMany, TooDeep}
-use Rattle.fc_parser.specs.Programs.{is_semi, Place, First, AfterLanguage, Within, AfterMain, Stands}
+use Rattle.fc_parser.specs.Programs.{is_semi, Place, First, AfterLanguage, AfterCeiling, AfterMain, Stands}
 use Rattle.fc_parser.specs.Faults.{FaultAt}
 
 -- the token is no `;`
@@ -22,7 +22,7 @@ goes_on t = not (is_semi (kind_view t.kind))
 abbrev pub place_at : Position → Place
 place_at position.First = First
 place_at position.AfterLanguage = AfterLanguage
-place_at (position.Within second) = Within second
+place_at (position.Within second) = AfterCeiling second
 place_at (position.AfterMain second) = AfterMain second
 
 -- the piece spells no declaration that may stand at this place

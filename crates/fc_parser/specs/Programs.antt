@@ -30,31 +30,31 @@ pieces (t ∷ ts) = if is_semi t.kind then (t ∷ []) ∷ pieces ts else onto_pi
 pub data Place : Type 0 where
   First : Place
   AfterLanguage : Place
-  Within : Bool → Place
+  AfterCeiling : Bool → Place
   AfterMain : Bool → Place
 
 -- whether the declaration at a place is one of language 2
 abbrev pub is_second : Place → Bool
 is_second First = false
 is_second AfterLanguage = true
-is_second (Within second) = second
+is_second (AfterCeiling second) = second
 is_second (AfterMain second) = second
 
 -- the place after a declaration, where it may stand at its place
-abbrev pub next : Place → Declaration → Option Place
-next First (LanguageIs n) = Some AfterLanguage
-next First (CeilingIs n) = Some (Within false)
-next AfterLanguage (CeilingIs n) = Some (Within true)
-next (Within second) (InputIs x t) = Some (Within second)
-next (Within second) (MetricIs least greatest) = Some (Within second)
-next (Within second) (DefIs f params result body) = Some (Within second)
-next (Within second) (MainIs e) = Some (AfterMain second)
-next _ _ = None
+abbrev pub next_place : Place → Declaration → Option Place
+next_place First (LanguageIs n) = Some AfterLanguage
+next_place First (CeilingIs n) = Some (AfterCeiling false)
+next_place AfterLanguage (CeilingIs n) = Some (AfterCeiling true)
+next_place (AfterCeiling second) (InputIs x t) = Some (AfterCeiling second)
+next_place (AfterCeiling second) (MetricIs least greatest) = Some (AfterCeiling second)
+next_place (AfterCeiling second) (DefIs f params result body) = Some (AfterCeiling second)
+next_place (AfterCeiling second) (MainIs e) = Some (AfterMain second)
+next_place _ _ = None
 
 -- the piece spells this declaration, which may stand at this place and leads to that one
 pub record Stands (place : Place) (piece : List TokenView) (d : Declaration) (after : Place) : Type 0 where
   pub spells : DeclarationIs (is_second place) (kinds piece) d
-  pub order : next place d ≡ Some after
+  pub order : next_place place d ≡ Some after
 
 -- from this place on, the pieces spell these declarations, and `main` ends them
 pub data Follow : Place → List (List TokenView) → List Declaration → Type 0 where

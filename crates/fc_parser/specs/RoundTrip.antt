@@ -1,7 +1,7 @@
 -- What is printed is read again.
 use Rattle.std.specs.Prelude.{ℕ, ◌≡◌, List, None}
 use Rattle.fc_lexer.specs.Kinds.{TokenView}
-use Rattle.fc_lexer.specs.Lexes.{Lexes, StopsAt}
+use Rattle.fc_lexer.specs.Lexes.{Lexes, IsStuckAt}
 use Rattle.fc_syntax.specs.Terms.{Declaration}
 use Rattle.fc_syntax.specs.Text.{program_text}
 use Rattle.fc_syntax.specs.Printable.{IsPrintable}
@@ -25,7 +25,7 @@ EachReading =
 
 -- reading the canonical text stops at no byte
 abbrev pub NeverStops : Type 0
-NeverStops = (ds : List Declaration) (i : ℕ) → IsPrintable ds → StopsAt (program_text ds) i → ⊥
+NeverStops = (ds : List Declaration) (i : ℕ) → IsPrintable ds → IsStuckAt (program_text ds) i → ⊥
 
 -- the program that its tokens parse as is this one
 abbrev pub SameProgram : Type 0

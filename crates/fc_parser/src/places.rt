@@ -3,7 +3,7 @@
 ghost use Rattle.std.specs.Prelude.{◌≡◌, ◌<◌, ◌^◌, length, option_map};
 ghost use Rattle.fc_lexer.specs.Kinds.{tokens_of};
 ghost use Rattle.fc_syntax.specs.Terms.{declaration_of};
-ghost use Rattle.fc_parser.specs.Programs.{is_second as of_second, next as next_place};
+ghost use Rattle.fc_parser.specs.Programs.{is_second as of_second, next_place};
 ghost use Rattle.fc_parser.specs.Places.{GivesStanding, place_at};
 
 use crate::declarations::declaration;

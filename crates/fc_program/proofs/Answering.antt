@@ -14,12 +14,12 @@ use Rattle.command_words.specs.declared.commands.Threaded.{Threaded}
 use Rattle.command_words.specs.declared.commands.Work.{Work}
 use Rattle.command_words.specs.declared.commands.Work.TheVariants.{Gen}
 use Rattle.command_words.specs.Commands.{limit_of}
-use Rattle.fc_inputs.specs.declared.refusal.Refusal.{Refusal}
-use Rattle.fc_inputs.specs.declared.refusal.Refusal.TheVariants as refusal
+use Rattle.command_frame.specs.declared.refusal.Refusal.{Refusal}
+use Rattle.command_frame.specs.declared.refusal.Refusal.TheVariants as refusal
 use Rattle.fc_values.specs.declared.limits.TheConstants.{MOST_BYTES}
-use Rattle.fc_inputs.specs.Causes.{Plainly, Judged, Refused, answer_of}
-use Rattle.fc_inputs.specs.Answers.{AnswerValue}
-use Rattle.fc_program.specs.declared.ending.Outcome.{Outcome}
+use Rattle.command_frame.specs.Causes.{Plainly, Judged, Refused, answer_of}
+use Rattle.command_frame.specs.Answers.{AnswerValue}
+use Rattle.fc_program.specs.declared.ending.CallEnd.{CallEnd}
 use Rattle.fc_answers.specs.Asked.{limit_refusal}
 use Rattle.fc_answers.specs.Answers.{Answered, Answers, AnswersWithin, OfInput, OfLength, Works}
 use Rattle.fc_answers.specs.Laws.{AnswerStatuses}
@@ -137,7 +137,7 @@ for_work t left a none h = record {
 
 -- ---- answers
 -- what was written is an answer to what is asked for by another name
-pub exact_named : (asked named : Option Command) (left left' old old' new : Option (List ℕ)) (o : Outcome)
+pub exact_named : (asked named : Option Command) (left left' old old' new : Option (List ℕ)) (o : CallEnd)
     → asked ≡ named → left ≡ left' → old ≡ old' → IsExact asked left old new o → IsExact named left' old' new o
 exact_named asked named left left' old old' new o e f g h =
     subst (λ a. IsExact a left' old' new o) e

@@ -6,14 +6,14 @@ use Rattle.std.specs.Io.KnownBytes.{Appends, IsAtEnd, Keeps}
 use Rattle.command_words.specs.declared.commands.Command.{Command}
 use Rattle.fc_values.specs.declared.limits.TheConstants.{MOST_BYTES}
 use Rattle.fc_io.specs.Causes.{Rose}
-use Rattle.fc_program.specs.declared.ending.Outcome.{Outcome}
+use Rattle.fc_program.specs.declared.ending.CallEnd.{CallEnd}
 use Rattle.fc_answers.specs.Asked.{reads_source}
 use Rattle.fc_answers.specs.Answers.{Answers}
 use Rattle.fc_answers.specs.Headline.{IsKept}
-use Rattle.fc_inputs.specs.Ledgers.{ledger_of}
-use Rattle.fc_inputs.specs.Answers.{AnswerValue}
+use Rattle.command_frame.specs.Ledgers.{ledger_of}
+use Rattle.command_frame.specs.Answers.{AnswerValue}
 
--- an answer to an input, which is what the source has left where it tells that; what a yes in it promises is kept
+-- an answer to an input, which is what the source has left where it tells that; what it promises is kept
 pub record IsAnswer (asked : Option Command) (left : Option (List ℕ)) (answer : AnswerValue) : Type 0 where
   pub input : List ℕ
   pub there : IfSome left (λ bytes. input ≡ bytes)
@@ -50,17 +50,17 @@ abbrev pub sink_at : Option (List ℕ) → ℕ → Option ℕ → SinkAt
 sink_at taken faults room = record { taken = taken; faults = faults; room = room }
 
 -- the book and the parts of an outcome are those of an answer
-pub record Tells (answer : AnswerValue) (o : Outcome) : Type 0 where
+pub record Tells (answer : AnswerValue) (o : CallEnd) : Type 0 where
   pub book : option_map ledger_of o.book ≡ answer.book
   pub parts : o.parts.items ≡ answer.parts
 
 -- an outcome without a book
-pub record TellsNothing (o : Outcome) : Type 0 where
+pub record TellsNothing (o : CallEnd) : Type 0 where
   pub book : IsNone o.book
   pub parts : o.parts.items ≡ []
 
 -- There is an answer with the outcome's status, book and parts, and the sink took its text and nothing else.
-pub record IsExact (asked : Option Command) (left old new : Option (List ℕ)) (o : Outcome) : Type 0 where
+pub record IsExact (asked : Option Command) (left old new : Option (List ℕ)) (o : CallEnd) : Type 0 where
   pub answer : AnswerValue
   pub answers : IsAnswer asked left answer
   pub status : o.status ≡ answer.status
@@ -68,7 +68,7 @@ pub record IsExact (asked : Option Command) (left old new : Option (List ℕ)) (
   pub tells : Tells answer o
 
 -- There is an answer with the outcome's book and parts, and the sink took only the first part of its text.
-pub record IsCut (asked : Option Command) (left old new : Option (List ℕ)) (o : Outcome) : Type 0 where
+pub record IsCut (asked : Option Command) (left old new : Option (List ℕ)) (o : CallEnd) : Type 0 where
   pub answer : AnswerValue
   pub answers : IsAnswer asked left answer
   pub size : ℕ
@@ -82,7 +82,7 @@ pub record IsUnread (src src' : SourceAt) (out out' : SinkAt) : Type 0 where
   pub keeps : Keeps out.taken out'.taken
 
 -- how a call for what the words ask ends: the source and the sink before it and after it, and its outcome
-pub record CallEnds (asked : Option Command) (src src' : SourceAt) (out out' : SinkAt) (o : Outcome) : Type 0 where
+pub record CallEnds (asked : Option Command) (src src' : SourceAt) (out out' : SinkAt) (o : CallEnd) : Type 0 where
   -- A status from 0 to 4: an answer to the words and to what the source had left was written, and nothing else.
   pub exact : o.status ≤ 4 → IsExact asked src.left out.taken out'.taken o
   -- What reads the source reads it to its end.

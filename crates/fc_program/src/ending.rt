@@ -14,7 +14,7 @@ use std::thread::Threads;
 
 /// What a run leaves beside its text.
 #[derive(Drop)]
-pub struct Outcome {
+pub struct CallEnd {
     /// The status that the program ends with.
     pub status: u8,
     /// The program, the start, the log and the last core of a run or a replay.
@@ -24,11 +24,11 @@ pub struct Outcome {
 }
 
 /// What is left where nothing was made.
-pub fn without_book(alloc: Global, status: u8) -> Outcome
+pub fn without_book(alloc: Global, status: u8) -> CallEnd
     ensures status { result.status ≡ status }
     ensures nothing { TellsNothing result }
 {
-    Outcome {
+    CallEnd {
         status,
         book: None,
         parts: Vec::new(alloc),
@@ -43,7 +43,7 @@ pub fn ended<W: Threads + Wait + Sync, S: Source, K: Sink, G: Gate + Sync>(
     src: &mut S,
     out: &mut K,
     gate: &G,
-) -> Outcome
+) -> CallEnd
     requires { MayAsk asked }
     ensures ends { CallEnds asked
         (source_at (S.left src.old) (S.faults src.old)) (source_at (S.left src.new) (S.faults src.new))
@@ -53,12 +53,12 @@ pub fn ended<W: Threads + Wait + Sync, S: Source, K: Sink, G: Gate + Sync>(
 {
     match answered(rt, alloc, asked, src, gate) {
         Ok(answer) => match write_all(out, &answer.text) {
-            Ok(()) => Outcome {
+            Ok(()) => CallEnd {
                 status: answer.status,
                 book: answer.book,
                 parts: answer.parts,
             },
-            Err(_) => Outcome {
+            Err(_) => CallEnd {
                 status: 6,
                 book: answer.book,
                 parts: answer.parts,

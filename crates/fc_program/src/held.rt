@@ -1,7 +1,7 @@
 //! Firings that are held at the gate until another device's firing has come there: workers fire at the same time, and
 //! while the caller edits.
 
-use crate::ending::Outcome;
+use crate::ending::CallEnd;
 use crate::hostile::words;
 use crate::top::fc;
 use export_table::{Firing, Gate};
@@ -72,7 +72,7 @@ fn held_run(
     let words = words(alloc, &["fc", "run", "--workers", "2"])?;
     let mut source = CalmSource::new(input.as_bytes().to_vec(alloc)?);
     let mut sink = CalmSink::new(alloc, 100)?;
-    let Outcome {
+    let CallEnd {
         status,
         book,
         parts: _parts,

@@ -7,12 +7,12 @@ ghost use Rattle.fc_program.specs.declared.judging.Failure.TheVariants as failur
 ghost use Rattle.fc_answers.specs.Answers.{Answers, Works};
 ghost use Rattle.fc_answers.specs.Asked.{MayAsk, reads_source, takes_input};
 ghost use Rattle.fc_program.specs.Top.{IsAnswer, OfSource, within_bytes};
-ghost use Rattle.fc_inputs.specs.Code.{value_of};
+ghost use Rattle.command_frame.specs.Code.{value_of};
 
+use command_frame::{Answer, Refusal, refuse};
 use command_words::{Command, Quiet, RunOptions, Threaded, Work};
 use export_table::Gate;
 use fc_answers::{answer_gen, answer_quiet, answer_run, answer_statuses, answers_keep, past_limit};
-use fc_inputs::{Answer, Refusal, refuse};
 use fc_io::{ReadAll, Source, read_all};
 use fc_values::{MOST_BYTES, Memory};
 use session::Pool;

@@ -4,9 +4,9 @@ ghost use Rattle.command_words.specs.Words.{command_of};
 ghost use Rattle.fc_answers.specs.Asked.{reads_source};
 ghost use Rattle.fc_answers.specs.Answers.{Answers};
 ghost use Rattle.fc_program.specs.Top.{CallEnds, IsExact, sink_at, source_at};
-ghost use Rattle.fc_inputs.specs.Answers.{AnswerValue};
+ghost use Rattle.command_frame.specs.Answers.{AnswerValue};
 
-use crate::ending::{Outcome, ended, without_book};
+use crate::ending::{CallEnd, ended, without_book};
 use command_words::{command, words_ask_for_commands};
 use export_table::Gate;
 use fc_io::{CalmSink, CalmSource, Sink, Source};
@@ -23,7 +23,7 @@ pub fn fc<W: Threads + Wait + Sync, S: Source, K: Sink, G: Gate + Sync>(
     src: &mut S,
     out: &mut K,
     gate: &G,
-) -> Outcome
+) -> CallEnd
     // The text that is written, the bytes that are read, the cause of each status, and the book: each field of
     // `CallEnds`.
     ensures ends { CallEnds (command_of (map string_bytes words.now))
@@ -49,7 +49,7 @@ pub fn calm<W: Threads + Wait + Sync, G: Gate + Sync>(
     input: Vec<u8>,
     out: &mut CalmSink,
     gate: &G,
-) -> Outcome
+) -> CallEnd
     requires fresh { out.old.faults ≡ 0 }
     requires empty { out.old.taken ≡ [] }
     requires room { (a : AnswerValue) → Answers (command_of (map string_bytes words.now)) input.items a

@@ -10,12 +10,12 @@ use Rattle.edit_commands.specs.Agreement.{SameEdit, SameEntry, SameEntries, Read
 use Rattle.edit_commands.specs.LineByLine.{Lines, AllLines, StopsAt, AreSaid, SaidBy}
 use Rattle.edit_commands.specs.LogEntries.{LogsHaveEntries}
 use Rattle.edit_commands.specs.Logs.{LogLine, log_of, IsEntry}
-use Rattle.fc_inputs.specs.declared.refusal.LineFault.{LineFault}
-use Rattle.fc_inputs.specs.Causes.{Judged, Accepted}
-use Rattle.fc_inputs.specs.Inputs.{InputOf, ReadsInput}
+use Rattle.command_frame.specs.declared.refusal.LineFault.{LineFault}
+use Rattle.command_frame.specs.Causes.{Judged, Accepted}
+use Rattle.command_frame.specs.Inputs.{InputOf, ReadsInput}
 use Rattle.command_words.specs.declared.commands.ReplayOptions.{ReplayOptions}
-use Rattle.fc_inputs.specs.Starts.{InputsStart, start_of}
-use Rattle.fc_inputs.specs.Answers.{AnswerValue}
+use Rattle.command_frame.specs.Starts.{InputsStart, start_of}
+use Rattle.command_frame.specs.Answers.{AnswerValue}
 use Rattle.fc_replay.specs.Promises.{LogLeads}
 use Rattle.fc_replay.specs.Replays.{ReplaysEntries, ReplaysLog, ShowsBook}
 use Rattle.fc_replay.specs.Stopping.{Logged, entries_in, first_stop}

@@ -12,18 +12,18 @@ use Rattle.edit_commands.specs.declared.types.Fault.{Fault}
 use Rattle.edit_commands.specs.LineByLine.{Lines, AllLines, StopsAt, SaidBy}
 use Rattle.edit_commands.specs.Logs.{LogLine, log_of, IsEntry}
 use Rattle.edit_commands.specs.Agreement.{SameEntries, ReadingsAgree, StepsAgree, ReplaysAgree, PartsAgree}
-use Rattle.fc_inputs.specs.declared.refusal.LineFault.{LineFault}
-use Rattle.fc_inputs.specs.Agreement.{Agree}
-use Rattle.fc_inputs.specs.Answers.{showing, AnswerValue}
-use Rattle.fc_inputs.specs.Causes.{Judged, Accepted}
-use Rattle.fc_inputs.specs.Inputs.{InputOf}
+use Rattle.command_frame.specs.declared.refusal.LineFault.{LineFault}
+use Rattle.command_frame.specs.Agreement.{Agree}
+use Rattle.command_frame.specs.Answers.{showing, AnswerValue}
+use Rattle.command_frame.specs.Causes.{Judged, Accepted}
+use Rattle.command_frame.specs.Inputs.{InputOf}
 use Rattle.command_words.specs.declared.commands.ReplayOptions.{ReplayOptions}
 use Rattle.fc_replay.specs.Stopping.{Logged, entries_in, first_stop}
 use Rattle.fc_replay.specs.Replays.{RoundsAsked, ShowsBook, ReplaysEntries, ReplaysLog}
-use Rattle.fc_inputs.proofs.Agreeing.{both_refused}
-use Rattle.fc_inputs.specs.Starts.{start_of}
-use Rattle.fc_inputs.specs.Tables.{table_line, where_asked}
-use Rattle.fc_inputs.specs.Ledgers.{book_of}
+use Rattle.command_frame.proofs.Agreeing.{both_refused}
+use Rattle.command_frame.specs.Starts.{start_of}
+use Rattle.command_frame.specs.Tables.{table_line, where_asked}
+use Rattle.command_frame.specs.Ledgers.{book_of}
 use Rattle.fc_replay.proofs.Stops.{same_stop}
 
 not_more : (live live' : List ℕ) (es es' : List EntryValue) (n m : ℕ) → live ≡ live' → after_edit es ≡ after_edit es'

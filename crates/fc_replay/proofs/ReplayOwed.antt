@@ -19,16 +19,16 @@ use Rattle.edit_commands.specs.LogEntries.{LogsHaveEntries}
 use Rattle.edit_commands.specs.Logs.{LogLine, log_of}
 use Rattle.command_words.specs.declared.commands.ReplayOptions.{ReplayOptions}
 use Rattle.round_count.proofs.EditsInLogs.{fewer}
-use Rattle.fc_inputs.specs.declared.refusal.LineFault.{LineFault}
-use Rattle.fc_inputs.specs.Answers.{AnswerValue}
-use Rattle.fc_inputs.specs.Causes.{Judged, Accepted}
-use Rattle.fc_inputs.specs.Inputs.{InputOf, ReadsInput}
-use Rattle.fc_inputs.specs.LineFaults.{fault_in}
-use Rattle.fc_inputs.specs.Owing.{HasStatus, IsZero}
-use Rattle.fc_inputs.specs.Starts.{InputsAreRead, start_of}
-use Rattle.fc_inputs.proofs.KeptYes.{at_program}
-use Rattle.fc_inputs.proofs.Owed.{OwesScenes, refused_status, texts_owe, three_owe, zero_low}
-use Rattle.fc_inputs.proofs.RefusalStatuses.{log_status}
+use Rattle.command_frame.specs.declared.refusal.LineFault.{LineFault}
+use Rattle.command_frame.specs.Answers.{AnswerValue}
+use Rattle.command_frame.specs.Causes.{Judged, Accepted}
+use Rattle.command_frame.specs.Inputs.{InputOf, ReadsInput}
+use Rattle.command_frame.specs.LineFaults.{fault_in}
+use Rattle.command_frame.specs.Owing.{HasStatus, IsZero}
+use Rattle.command_frame.specs.Starts.{InputsAreRead, start_of}
+use Rattle.command_frame.proofs.KeptYes.{at_program}
+use Rattle.command_frame.proofs.Owed.{OwesScenes, refused_status, texts_owe, three_owe, zero_low}
+use Rattle.command_frame.proofs.RefusalStatuses.{log_status}
 use Rattle.fc_replay.specs.Promises.{ReplayOwes, ReplaysKept}
 use Rattle.fc_replay.specs.Replays.{Replays, ReplaysEntries, ReplaysLog}
 use Rattle.fc_replay.specs.Stopping.{entries_in, first_stop}

@@ -16,17 +16,17 @@ use Rattle.edit_commands.specs.declared.types.ScriptFault.{ScriptFault}
 use Rattle.edit_commands.specs.declared.types.ScriptFault.TheVariants as script
 use Rattle.edit_commands.specs.LineByLine.{Lines, AllLines, StopsAt, SaidBy}
 use Rattle.edit_commands.specs.Logs.{LogLine, IsEntry, RefusesLog, log_of}
-use Rattle.fc_inputs.specs.declared.refusal.LineFault.{LineFault}
-use Rattle.fc_inputs.specs.declared.refusal.LineFault.TheVariants.{Net}
-use Rattle.fc_inputs.specs.Answers.{showing, AnswerValue}
-use Rattle.fc_inputs.specs.Causes.{Cause, Plainly, Judged, Accepted, Refused}
-use Rattle.fc_inputs.specs.Refusals.{log_refusal}
-use Rattle.fc_inputs.specs.Inputs.{ReadsInput}
-use Rattle.fc_inputs.specs.Stops.{StopsFor, stop_at}
-use Rattle.fc_inputs.specs.Ledgers.{Ledger, ledger_of, book_of}
-use Rattle.fc_inputs.specs.LineFaults.{fault_in, step_fault}
-use Rattle.fc_inputs.specs.Starts.{start_of}
-use Rattle.fc_inputs.specs.Tables.{table_line, where_asked}
+use Rattle.command_frame.specs.declared.refusal.LineFault.{LineFault}
+use Rattle.command_frame.specs.declared.refusal.LineFault.TheVariants.{Net}
+use Rattle.command_frame.specs.Answers.{showing, AnswerValue}
+use Rattle.command_frame.specs.Causes.{Cause, Plainly, Judged, Accepted, Refused}
+use Rattle.command_frame.specs.Refusals.{log_refusal}
+use Rattle.command_frame.specs.Inputs.{ReadsInput}
+use Rattle.command_frame.specs.Stops.{StopsFor, stop_at}
+use Rattle.command_frame.specs.Ledgers.{Ledger, ledger_of, book_of}
+use Rattle.command_frame.specs.LineFaults.{fault_in, step_fault}
+use Rattle.command_frame.specs.Starts.{start_of}
+use Rattle.command_frame.specs.Tables.{table_line, where_asked}
 use Rattle.command_words.specs.declared.commands.ReplayOptions.{ReplayOptions}
 use Rattle.fc_replay.specs.Stopping.{Logged, entries_in, first_stop}
 use Rattle.fc_replay.specs.Replays.{RoundsAsked, IsText, ShowsBook, ReplaysEntries, ReplaysLog, Replays}

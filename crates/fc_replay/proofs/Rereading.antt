@@ -7,12 +7,12 @@ use Rattle.edit_commands.specs.declared.types.Fault.{Fault}
 use Rattle.edit_commands.specs.LineByLine.{Lines, AllLines, StopsAt, SaidBy, WhereAccepted}
 use Rattle.edit_commands.specs.Logs.{LogLine, IsEntry, log_of}
 use Rattle.log_texts.specs.ReadingBack.{log_lines, numbered_from, AreNamed, ReadsBack, StandFor, LogsReadBack}
-use Rattle.fc_inputs.specs.declared.refusal.LineFault.{LineFault}
-use Rattle.fc_inputs.specs.Answers.{showing, AnswerValue}
-use Rattle.fc_inputs.specs.Causes.{Judged, Accepted, AndThen}
-use Rattle.fc_inputs.specs.Ledgers.{book_of}
-use Rattle.fc_inputs.specs.Inputs.{OneInput, TextsNameInputs, TextsUnfold}
-use Rattle.fc_inputs.specs.Starts.{InputsStart, start_of}
+use Rattle.command_frame.specs.declared.refusal.LineFault.{LineFault}
+use Rattle.command_frame.specs.Answers.{showing, AnswerValue}
+use Rattle.command_frame.specs.Causes.{Judged, Accepted, AndThen}
+use Rattle.command_frame.specs.Ledgers.{book_of}
+use Rattle.command_frame.specs.Inputs.{OneInput, TextsNameInputs, TextsUnfold}
+use Rattle.command_frame.specs.Starts.{InputsStart, start_of}
 use Rattle.command_words.specs.declared.commands.ReplayOptions.{ReplayOptions}
 use Rattle.fc_replay.specs.Replays.{IsText, ShowsBook, ReplaysEntries, ReplaysLog}
 use Rattle.fc_replay.specs.Stopping.{Logged, entries_in, first_stop}

@@ -18,13 +18,13 @@ use Rattle.edit_commands.specs.LogEntries.{LogsHaveEntries}
 use Rattle.edit_commands.specs.Logs.{LogLine, log_of, IsEntry}
 use Rattle.report.specs.Texts.{values_text}
 use Rattle.report.specs.Verdicts.{rounds_text}
-use Rattle.fc_inputs.specs.declared.refusal.LineFault.{LineFault}
-use Rattle.fc_inputs.specs.Refusals.{log_refusal}
-use Rattle.fc_inputs.specs.Answers.{showing, AnswerValue}
-use Rattle.fc_inputs.specs.Causes.{Plainly, Judged, Accepted, Refused}
-use Rattle.fc_inputs.specs.Ledgers.{Ledger, book_of}
-use Rattle.fc_inputs.specs.Tables.{table_line, where_asked}
-use Rattle.fc_inputs.specs.LineFaults.{fault_in, step_fault}
+use Rattle.command_frame.specs.declared.refusal.LineFault.{LineFault}
+use Rattle.command_frame.specs.Refusals.{log_refusal}
+use Rattle.command_frame.specs.Answers.{showing, AnswerValue}
+use Rattle.command_frame.specs.Causes.{Plainly, Judged, Accepted, Refused}
+use Rattle.command_frame.specs.Ledgers.{Ledger, book_of}
+use Rattle.command_frame.specs.Tables.{table_line, where_asked}
+use Rattle.command_frame.specs.LineFaults.{fault_in, step_fault}
 use Rattle.command_words.specs.declared.commands.ReplayOptions.{ReplayOptions}
 use Rattle.fc_replay.specs.Replays.{ReplaysEntries, ReplaysLog, RoundsAsked, IsText}
 use Rattle.fc_replay.specs.Stopping.{Logged, entries_in, first_stop, no_step, stop_here, stop_later}

@@ -7,9 +7,9 @@ use Rattle.firing_core.specs.Cores.{Core, Run, IsGood}
 use Rattle.firing_core.specs.Entries.{EntryValue, BeginEntry, EndEntry, IdleEntry, EditEntry}
 use Rattle.firing_core.specs.Replays.{fault_of, net_fault_of, unless, step_of, step, and_replay, replay, LogFits, FailsAt}
 use Rattle.edit_commands.specs.Agreement.{SameEntries, StepsAgree, number_in}
-use Rattle.fc_inputs.specs.declared.refusal.LineFault.{LineFault}
-use Rattle.fc_inputs.specs.declared.refusal.LineFault.TheVariants.{Net}
-use Rattle.fc_inputs.specs.LineFaults.{step_fault}
+use Rattle.command_frame.specs.declared.refusal.LineFault.{LineFault}
+use Rattle.command_frame.specs.declared.refusal.LineFault.TheVariants.{Net}
+use Rattle.command_frame.specs.LineFaults.{step_fault}
 use Rattle.fc_replay.specs.Stopping.{Logged, entries_in, no_step, stop_here, stop_later, first_stop}
 
 -- an entry that has a step has no fault

@@ -10,15 +10,15 @@ use Rattle.edit_commands.specs.declared.types.ScriptFault.{ScriptFault}
 use Rattle.edit_commands.specs.declared.types.ScriptFault.TheVariants as script
 use Rattle.edit_commands.specs.LineByLine.{Lines, AllLines, StopsAt}
 use Rattle.edit_commands.specs.Logs.{LogLine}
-use Rattle.fc_inputs.specs.declared.refusal.LineFault.{LineFault}
-use Rattle.fc_inputs.specs.declared.refusal.LineFault.TheVariants.{Net}
-use Rattle.fc_inputs.specs.declared.stop.Stop.{Stop}
-use Rattle.fc_inputs.specs.declared.stop.Stop.TheVariants as stop
-use Rattle.fc_inputs.specs.Causes.{Cause, Plainly}
-use Rattle.fc_inputs.specs.Refusals.{log_refusal}
-use Rattle.fc_inputs.specs.Ledgers.{Ledger, book_of}
-use Rattle.fc_inputs.specs.LineFaults.{fault_in, step_fault}
-use Rattle.fc_inputs.specs.Stops.{stop_at}
+use Rattle.command_frame.specs.declared.refusal.LineFault.{LineFault}
+use Rattle.command_frame.specs.declared.refusal.LineFault.TheVariants.{Net}
+use Rattle.command_frame.specs.declared.stop.Stop.{Stop}
+use Rattle.command_frame.specs.declared.stop.Stop.TheVariants as stop
+use Rattle.command_frame.specs.Causes.{Cause, Plainly}
+use Rattle.command_frame.specs.Refusals.{log_refusal}
+use Rattle.command_frame.specs.Ledgers.{Ledger, book_of}
+use Rattle.command_frame.specs.LineFaults.{fault_in, step_fault}
+use Rattle.command_frame.specs.Stops.{stop_at}
 use Rattle.fc_replay.specs.Stopping.{Logged, entries_in, first_stop}
 
 -- the stop of a log that isn't replayed, from the numbers of its lines

@@ -11,13 +11,13 @@ use Rattle.net_json.specs.Scenes.{SceneValue}
 use Rattle.edit_commands.specs.Logs.{IsLog}
 use Rattle.command_words.specs.declared.commands.ReplayOptions.{ReplayOptions}
 use Rattle.fc_values.specs.declared.limits.TheConstants.{MOST_BYTES}
-use Rattle.fc_inputs.specs.Answers.{AnswerValue, showing}
-use Rattle.fc_inputs.specs.Causes.{Accepted}
-use Rattle.fc_inputs.specs.Inputs.{ReadsInput}
-use Rattle.fc_inputs.specs.Ledgers.{book_of}
-use Rattle.fc_inputs.specs.Owing.{IsZero, OfThree, Owes}
-use Rattle.fc_inputs.specs.Sections.{AreWithin, WithThree}
-use Rattle.fc_inputs.specs.Starts.{start_of}
+use Rattle.command_frame.specs.Answers.{AnswerValue, showing}
+use Rattle.command_frame.specs.Causes.{Accepted}
+use Rattle.command_frame.specs.Inputs.{ReadsInput}
+use Rattle.command_frame.specs.Ledgers.{book_of}
+use Rattle.command_frame.specs.Owing.{IsZero, OfThree, Owes}
+use Rattle.command_frame.specs.Sections.{AreWithin, WithThree}
+use Rattle.command_frame.specs.Starts.{start_of}
 use Rattle.fc_replay.specs.Replays.{IsText, Replays}
 use Rattle.fc_replay.specs.Stopping.{Logged, entries_in}
 

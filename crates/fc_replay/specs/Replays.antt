@@ -11,15 +11,15 @@ use Rattle.edit_commands.specs.LineByLine.{Lines, AllLines, StopsAt, AreSaid}
 use Rattle.edit_commands.specs.Logs.{LogLine, IsEntry, log_of}
 use Rattle.report.specs.Texts.{values_text}
 use Rattle.report.specs.Verdicts.{rounds_text}
-use Rattle.fc_inputs.specs.declared.refusal.LineFault.{LineFault}
-use Rattle.fc_inputs.specs.Refusals.{log_refusal}
-use Rattle.fc_inputs.specs.Answers.{AnswerValue, showing}
-use Rattle.fc_inputs.specs.Causes.{Plainly, Judged, Accepted, Refused}
-use Rattle.fc_inputs.specs.Inputs.{OfScene}
-use Rattle.fc_inputs.specs.Starts.{start_of}
-use Rattle.fc_inputs.specs.Tables.{table_line, where_asked}
-use Rattle.fc_inputs.specs.Ledgers.{Ledger, book_of}
-use Rattle.fc_inputs.specs.LineFaults.{fault_in}
+use Rattle.command_frame.specs.declared.refusal.LineFault.{LineFault}
+use Rattle.command_frame.specs.Refusals.{log_refusal}
+use Rattle.command_frame.specs.Answers.{AnswerValue, showing}
+use Rattle.command_frame.specs.Causes.{Plainly, Judged, Accepted, Refused}
+use Rattle.command_frame.specs.Inputs.{OfScene}
+use Rattle.command_frame.specs.Starts.{start_of}
+use Rattle.command_frame.specs.Tables.{table_line, where_asked}
+use Rattle.command_frame.specs.Ledgers.{Ledger, book_of}
+use Rattle.command_frame.specs.LineFaults.{fault_in}
 use Rattle.command_words.specs.declared.commands.ReplayOptions.{ReplayOptions}
 use Rattle.fc_replay.specs.Stopping.{Logged, entries_in, first_stop}
 

@@ -6,9 +6,9 @@ use Rattle.firing_core.specs.declared.entries.StepFault.{StepFault}
 use Rattle.firing_core.specs.Cores.{Core}
 use Rattle.firing_core.specs.Entries.{EntryValue}
 use Rattle.firing_core.specs.Replays.{fault_of, net_fault_of, step_of}
-use Rattle.fc_inputs.specs.declared.refusal.LineFault.{LineFault}
-use Rattle.fc_inputs.specs.declared.refusal.LineFault.TheVariants.{Net}
-use Rattle.fc_inputs.specs.LineFaults.{step_fault}
+use Rattle.command_frame.specs.declared.refusal.LineFault.{LineFault}
+use Rattle.command_frame.specs.declared.refusal.LineFault.TheVariants.{Net}
+use Rattle.command_frame.specs.LineFaults.{step_fault}
 
 -- an entry of a log, with the number of its line
 abbrev pub Logged : Type 0

@@ -6,11 +6,11 @@ use Rattle.firing_core.specs.Entries.{EntryValue}
 use Rattle.edit_commands.specs.Agreement.{SameEntries}
 use Rattle.edit_commands.specs.LineByLine.{WhereAccepted}
 use Rattle.log_texts.specs.ReadingBack.{log_lines}
-use Rattle.fc_inputs.specs.Answers.{showing, AnswerValue}
-use Rattle.fc_inputs.specs.Causes.{Judged, Accepted}
-use Rattle.fc_inputs.specs.Ledgers.{book_of}
-use Rattle.fc_inputs.specs.Inputs.{InputOf, ReadsInput}
-use Rattle.fc_inputs.specs.Starts.{start_of}
+use Rattle.command_frame.specs.Answers.{showing, AnswerValue}
+use Rattle.command_frame.specs.Causes.{Judged, Accepted}
+use Rattle.command_frame.specs.Ledgers.{book_of}
+use Rattle.command_frame.specs.Inputs.{InputOf, ReadsInput}
+use Rattle.command_frame.specs.Starts.{start_of}
 use Rattle.command_words.specs.declared.commands.ReplayOptions.{ReplayOptions}
 use Rattle.fc_replay.specs.Replays.{IsText, Replays}
 

@@ -3,9 +3,9 @@
 ghost use Rattle.fc_replay.specs.Promises.{ReplayOwes};
 ghost use Rattle.fc_replay.specs.WrittenLogs.{WrittenLogsReplay};
 
+use command_frame::{inputs_are_read, inputs_start, one_input, texts_name_inputs, texts_unfold};
 use converge_laws::yes_stabilises;
 use edit_commands::{logs_have_entries, readings_agree};
-use fc_inputs::{inputs_are_read, inputs_start, one_input, texts_name_inputs, texts_unfold};
 use firing_core::{faultless_steps, runs_cut, steps_agree, steps_keep_good};
 use log_texts::logs_read_back;
 use round_count::some_greatest;

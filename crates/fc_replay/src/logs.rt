@@ -4,12 +4,12 @@ ghost use Rattle.fc_nodes.specs.Program.{unfolding_of};
 ghost use Rattle.firing_core.specs.Entries.{entries_of};
 ghost use Rattle.firing_core.specs.Replays.{LogFits};
 ghost use Rattle.edit_commands.specs.Logs.{IsLog, log_of, logged};
-ghost use Rattle.fc_inputs.specs.Stops.{StopsFor};
+ghost use Rattle.command_frame.specs.Stops.{StopsFor};
 ghost use Rattle.fc_values.specs.declared.limits.TheConstants.{MOST_BYTES};
 ghost use Rattle.fc_replay.specs.Code.{IsFaultOfLog, IsFaulty, StopsWithin, fault_stop, stop_of};
 
+use command_frame::{LineFault, Stop, fault_in, log_refusal, step_fault, stop_at};
 use edit_commands::{Log, ScriptFault, read_log};
-use fc_inputs::{LineFault, Stop, fault_in, log_refusal, step_fault, stop_at};
 use fc_nodes::Unfolded;
 use firing_core::ReplayFault;
 use std::alloc::Global;

@@ -5,11 +5,11 @@ ghost use Rattle.topology.specs.Networks.{numbers};
 ghost use Rattle.firing_core.specs.CoreViews.{core_of};
 ghost use Rattle.firing_core.specs.Entries.{entries_of};
 ghost use Rattle.round_count.specs.Laws.{IsGreatest};
-ghost use Rattle.fc_inputs.specs.Ledgers.{ledger_of};
+ghost use Rattle.command_frame.specs.Ledgers.{ledger_of};
 ghost use Rattle.fc_replay.specs.Replays.{IsText, RoundsAsked};
 
+use command_frame::table_text;
 use command_words::ReplayOptions;
-use fc_inputs::table_text;
 use fc_values::Memory;
 use firing_core::{Book, Core};
 use report::{rounds_line, values};

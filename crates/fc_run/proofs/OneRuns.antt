@@ -10,12 +10,12 @@ use Rattle.edit_commands.specs.Scripts.{CommandValue, Script, TooManyLines, With
 use Rattle.report.specs.Logs.{log_text}
 use Rattle.session.specs.Laws.{OneScriptRun}
 use Rattle.session.specs.ScriptRuns.{ScriptRun}
-use Rattle.fc_inputs.specs.Agreement.{Agree}
-use Rattle.fc_inputs.specs.Answers.{AnswerValue, showing}
-use Rattle.fc_inputs.specs.Causes.{Judged, Accepted}
-use Rattle.fc_inputs.proofs.Agreeing.{both_refused}
-use Rattle.fc_inputs.specs.Ledgers.{book_of}
-use Rattle.fc_inputs.specs.Tables.{table_line, where_asked}
+use Rattle.command_frame.specs.Agreement.{Agree}
+use Rattle.command_frame.specs.Answers.{AnswerValue, showing}
+use Rattle.command_frame.specs.Causes.{Judged, Accepted}
+use Rattle.command_frame.proofs.Agreeing.{both_refused}
+use Rattle.command_frame.specs.Ledgers.{book_of}
+use Rattle.command_frame.specs.Tables.{table_line, where_asked}
 use Rattle.command_words.specs.declared.commands.RunOptions.{RunOptions}
 use Rattle.fc_run.specs.Runs.{run_text, RunsCommands, RunsScript}
 use Rattle.fc_run.proofs.LogTexts.{same_log}

@@ -6,26 +6,26 @@ use Rattle.edit_commands.specs.Agreement.{CommandsAgree}
 use Rattle.edit_commands.specs.JudgedCommands.{ScriptsAreJudged}
 use Rattle.edit_commands.specs.LineByLine.{AllLines, StopsAt}
 use Rattle.edit_commands.specs.ScriptCommands.{ScriptsHaveCommands}
-use Rattle.edit_commands.specs.Scripts.{LineFault, OfLine, OfScrambles, OfFirings}
+use Rattle.edit_commands.specs.Scripts.{ScriptLineFault, OfLine, OfScrambles, OfFirings}
 use Rattle.edit_commands.specs.Scripts.{Script, TooManyLines, Within, script_of}
 use Rattle.session.specs.Laws.{OneScriptRun, SomeScriptRun}
 use Rattle.session.specs.Promises.{ScriptsKeepYes}
 use Rattle.command_words.specs.declared.commands.RunOptions.{RunOptions}
-use Rattle.fc_inputs.specs.Answers.{AnswerValue}
-use Rattle.fc_inputs.specs.Causes.{Judged}
-use Rattle.fc_inputs.specs.LineFaults.{fault_in}
-use Rattle.fc_inputs.specs.Owing.{HasStatus, IsZero, RefusesBy}
-use Rattle.fc_inputs.specs.Refusals.{status_of}
-use Rattle.fc_inputs.specs.Starts.{InputsAreRead, start_of}
-use Rattle.fc_inputs.proofs.Owed.{OwesScenes, refused_status, texts_owe, three_owe, zero_low}
-use Rattle.fc_inputs.proofs.RefusalStatuses.{by_four, script_status}
+use Rattle.command_frame.specs.Answers.{AnswerValue}
+use Rattle.command_frame.specs.Causes.{Judged}
+use Rattle.command_frame.specs.LineFaults.{fault_in}
+use Rattle.command_frame.specs.Owing.{HasStatus, IsZero, RefusesBy}
+use Rattle.command_frame.specs.Refusals.{status_of}
+use Rattle.command_frame.specs.Starts.{InputsAreRead, start_of}
+use Rattle.command_frame.proofs.Owed.{OwesScenes, refused_status, texts_owe, three_owe, zero_low}
+use Rattle.command_frame.proofs.RefusalStatuses.{by_four, script_status}
 use Rattle.fc_run.specs.Promises.{RunKeepsYes, RunOwes}
 use Rattle.fc_run.specs.Runs.{Runs, RunsScript, line_refusal}
 use Rattle.fc_run.proofs.KeptYes.{by_script}
 use Rattle.fc_run.proofs.OneRuns.{one_script}
 use Rattle.fc_run.proofs.SomeRuns.{some_script}
 
-line_status : (at : ℕ) (fault : LineFault) → RefusesBy (status_of (line_refusal at fault))
+line_status : (at : ℕ) (fault : ScriptLineFault) → RefusesBy (status_of (line_refusal at fault))
 line_status at (OfLine fault) = script_status at (fault_in fault)
 line_status at (OfScrambles count) = by_four
 line_status at (OfFirings count) = by_four

@@ -16,13 +16,13 @@ use Rattle.edit_commands.specs.Scripts.{RefusesScript, script_of}
 use Rattle.report.specs.Logs.{log_text}
 use Rattle.session.specs.ScriptRuns.{ScriptRun}
 use Rattle.session.specs.Sessions.{SessionValue, HasRun}
-use Rattle.fc_inputs.specs.Answers.{AnswerValue, showing}
-use Rattle.fc_inputs.specs.Causes.{Cause, Judged, Accepted, Refused}
-use Rattle.fc_inputs.specs.Inputs.{ReadsInput}
-use Rattle.fc_inputs.specs.Stops.{StopsFor}
-use Rattle.fc_inputs.specs.Starts.{start_of}
-use Rattle.fc_inputs.specs.Ledgers.{book_of}
-use Rattle.fc_inputs.specs.Tables.{table_line, where_asked}
+use Rattle.command_frame.specs.Answers.{AnswerValue, showing}
+use Rattle.command_frame.specs.Causes.{Cause, Judged, Accepted, Refused}
+use Rattle.command_frame.specs.Inputs.{ReadsInput}
+use Rattle.command_frame.specs.Stops.{StopsFor}
+use Rattle.command_frame.specs.Starts.{start_of}
+use Rattle.command_frame.specs.Ledgers.{book_of}
+use Rattle.command_frame.specs.Tables.{table_line, where_asked}
 use Rattle.command_words.specs.declared.commands.RunOptions.{RunOptions}
 use Rattle.fc_run.specs.Code.{IsRefused, ended_of, script_stop}
 use Rattle.fc_run.specs.Runs.{RunsCommands, RunsScript, Runs, run_text}

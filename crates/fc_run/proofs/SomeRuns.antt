@@ -8,13 +8,13 @@ use Rattle.edit_commands.specs.declared.scripts.TheConstants.{MOST_LINES}
 use Rattle.edit_commands.specs.JudgedCommands.{ScriptsAreJudged}
 use Rattle.edit_commands.specs.LineByLine.{Lines, AllLines, StopsAt}
 use Rattle.edit_commands.specs.ScriptCommands.{ScriptsHaveCommands}
-use Rattle.edit_commands.specs.Scripts.{ScriptLine, LineFault, TooManyLines, Within, lines_in, script_of}
+use Rattle.edit_commands.specs.Scripts.{ScriptLine, ScriptLineFault, TooManyLines, Within, lines_in, script_of}
 use Rattle.edit_commands.specs.Scripts.{IsScript, SaidByScript}
 use Rattle.session.specs.Laws.{SomeScriptRun}
-use Rattle.fc_inputs.specs.declared.refusal.Refusal.TheVariants.{Lines as LinesOf}
-use Rattle.fc_inputs.specs.Answers.{showing, AnswerValue}
-use Rattle.fc_inputs.specs.Causes.{Plainly, Judged, Accepted, Refused}
-use Rattle.fc_inputs.specs.Ledgers.{book_of}
+use Rattle.command_frame.specs.declared.refusal.Refusal.TheVariants.{Lines as LinesOf}
+use Rattle.command_frame.specs.Answers.{showing, AnswerValue}
+use Rattle.command_frame.specs.Causes.{Plainly, Judged, Accepted, Refused}
+use Rattle.command_frame.specs.Ledgers.{book_of}
 use Rattle.command_words.specs.declared.commands.RunOptions.{RunOptions}
 use Rattle.fc_run.specs.Runs.{run_text, line_refusal, RunsScript}
 
@@ -22,7 +22,7 @@ module _ (have : ScriptsHaveCommands) (judged : ScriptsAreJudged) (some : SomeSc
     (P : Program) (p : IsProgram P)
     (start : Core) (good : IsGood (unfolding_of P) start) (text : List ℕ) where
   -- a script with few lines
-  some_lines : (lines : Lines LineFault ScriptLine) → lines_in (unfolding_of P) start text ≡ lines
+  some_lines : (lines : Lines ScriptLineFault ScriptLine) → lines_in (unfolding_of P) start text ≡ lines
       → script_of (unfolding_of P) start text ≡ Within lines
       → (j : Judged AnswerValue) × RunsScript options (unfolding_of P) start (Within lines) j
   some_lines (StopsAt at fault) e q = (Refused (Plainly (line_refusal at fault)), refl)

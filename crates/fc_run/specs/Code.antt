@@ -8,14 +8,14 @@ use Rattle.edit_commands.specs.declared.types.ScriptFault.TheVariants as script
 use Rattle.edit_commands.specs.LineByLine.{AllLines, StopsAt}
 use Rattle.edit_commands.specs.Scripts.{Script, TooManyLines, Within}
 use Rattle.session.specs.Sessions.{SessionValue}
-use Rattle.fc_inputs.specs.declared.refusal.Refusal.TheVariants.{Lines, Scrambles, Firings}
-use Rattle.fc_inputs.specs.declared.stop.Stop.{Stop}
-use Rattle.fc_inputs.specs.declared.stop.Stop.TheVariants as stop
-use Rattle.fc_inputs.specs.Answers.{AnswerValue, showing}
-use Rattle.fc_inputs.specs.Causes.{Cause, Plainly}
-use Rattle.fc_inputs.specs.Refusals.{script_refusal}
-use Rattle.fc_inputs.specs.Ledgers.{ledger_of}
-use Rattle.fc_inputs.specs.LineFaults.{fault_in}
+use Rattle.command_frame.specs.declared.refusal.Refusal.TheVariants.{Lines, Scrambles, Firings}
+use Rattle.command_frame.specs.declared.stop.Stop.{Stop}
+use Rattle.command_frame.specs.declared.stop.Stop.TheVariants as stop
+use Rattle.command_frame.specs.Answers.{AnswerValue, showing}
+use Rattle.command_frame.specs.Causes.{Cause, Plainly}
+use Rattle.command_frame.specs.Refusals.{script_refusal}
+use Rattle.command_frame.specs.Ledgers.{ledger_of}
+use Rattle.command_frame.specs.LineFaults.{fault_in}
 use Rattle.command_words.specs.declared.commands.RunOptions.{RunOptions}
 use Rattle.fc_run.specs.Runs.{line_refusal, run_text}
 

@@ -9,13 +9,13 @@ use Rattle.edit_commands.specs.Scripts.{CommandValue, IsScript}
 use Rattle.session.specs.ScriptRuns.{ScriptRun}
 use Rattle.session.specs.Promises.{KeepsYes}
 use Rattle.fc_values.specs.declared.limits.TheConstants.{MOST_BYTES}
-use Rattle.fc_inputs.specs.Answers.{showing, AnswerValue}
-use Rattle.fc_inputs.specs.Causes.{Accepted}
-use Rattle.fc_inputs.specs.Inputs.{ReadsInput}
-use Rattle.fc_inputs.specs.Owing.{IsZero, OfThree, Owes}
-use Rattle.fc_inputs.specs.Sections.{AreWithin, WithThree}
-use Rattle.fc_inputs.specs.Ledgers.{book_of}
-use Rattle.fc_inputs.specs.Starts.{start_of}
+use Rattle.command_frame.specs.Answers.{showing, AnswerValue}
+use Rattle.command_frame.specs.Causes.{Accepted}
+use Rattle.command_frame.specs.Inputs.{ReadsInput}
+use Rattle.command_frame.specs.Owing.{IsZero, OfThree, Owes}
+use Rattle.command_frame.specs.Sections.{AreWithin, WithThree}
+use Rattle.command_frame.specs.Ledgers.{book_of}
+use Rattle.command_frame.specs.Starts.{start_of}
 use Rattle.command_words.specs.declared.commands.RunOptions.{RunOptions}
 use Rattle.fc_run.specs.Runs.{Runs, run_text}
 

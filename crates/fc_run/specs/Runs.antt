@@ -5,20 +5,20 @@ use Rattle.firing_core.specs.declared.entries.Part.{Part}
 use Rattle.firing_core.specs.Cores.{Core}
 use Rattle.firing_core.specs.Entries.{EntryValue}
 use Rattle.edit_commands.specs.LineByLine.{AllLines, StopsAt, AreSaid}
-use Rattle.edit_commands.specs.Scripts.{ScriptLine, LineFault, OfLine, OfScrambles, OfFirings, CommandValue, IsCommand}
+use Rattle.edit_commands.specs.Scripts.{ScriptLine, ScriptLineFault, OfLine, OfScrambles, OfFirings, CommandValue, IsCommand}
 use Rattle.edit_commands.specs.Scripts.{Script, TooManyLines, Within, script_of}
 use Rattle.report.specs.Logs.{log_text}
 use Rattle.session.specs.ScriptRuns.{ScriptRun}
-use Rattle.fc_inputs.specs.declared.refusal.Refusal.{Refusal}
-use Rattle.fc_inputs.specs.declared.refusal.Refusal.TheVariants.{Lines, Scrambles, Firings}
-use Rattle.fc_inputs.specs.Refusals.{script_refusal}
-use Rattle.fc_inputs.specs.Answers.{AnswerValue, showing}
-use Rattle.fc_inputs.specs.Causes.{Plainly, Judged, Accepted, Refused}
-use Rattle.fc_inputs.specs.Inputs.{OfScene}
-use Rattle.fc_inputs.specs.Ledgers.{book_of}
-use Rattle.fc_inputs.specs.Starts.{start_of}
-use Rattle.fc_inputs.specs.Tables.{table_line, where_asked}
-use Rattle.fc_inputs.specs.LineFaults.{fault_in}
+use Rattle.command_frame.specs.declared.refusal.Refusal.{Refusal}
+use Rattle.command_frame.specs.declared.refusal.Refusal.TheVariants.{Lines, Scrambles, Firings}
+use Rattle.command_frame.specs.Refusals.{script_refusal}
+use Rattle.command_frame.specs.Answers.{AnswerValue, showing}
+use Rattle.command_frame.specs.Causes.{Plainly, Judged, Accepted, Refused}
+use Rattle.command_frame.specs.Inputs.{OfScene}
+use Rattle.command_frame.specs.Ledgers.{book_of}
+use Rattle.command_frame.specs.Starts.{start_of}
+use Rattle.command_frame.specs.Tables.{table_line, where_asked}
+use Rattle.command_frame.specs.LineFaults.{fault_in}
 use Rattle.command_words.specs.declared.commands.RunOptions.{RunOptions}
 
 -- the text of a script run, then the log and the table, where they are asked for
@@ -44,7 +44,7 @@ pub record RunsLines (options : RunOptions) (U : Unfolding) (start : Core) (line
   pub runs : RunsCommands options U start commands j
 
 -- the refusal of a line of a script, or of the limit that it passes
-abbrev pub line_refusal : ℕ → LineFault → Refusal
+abbrev pub line_refusal : ℕ → ScriptLineFault → Refusal
 line_refusal at (OfLine fault) = script_refusal at (fault_in fault)
 line_refusal at (OfScrambles count) = Scrambles count
 line_refusal at (OfFirings count) = Firings count

@@ -2,8 +2,8 @@
 
 ghost use Rattle.fc_run.specs.Promises.{RunOwes};
 
+use command_frame::inputs_are_read;
 use edit_commands::{readings_agree, scripts_are_judged, scripts_have_commands};
-use fc_inputs::inputs_are_read;
 use session::{one_script_run, scripts_keep_yes, some_script_run};
 
 /// `run` has one answer to each input where the logs agree. What is run keeps a yes: where the last verdict that was

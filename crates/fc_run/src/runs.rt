@@ -3,20 +3,20 @@ ghost use Rattle.std.specs.Prelude.{◌≡◌, ◌≤◌, ◌++◌, IfErr, IfOk,
 ghost use Rattle.firing_core.specs.CoreViews.{core_of, program_of};
 ghost use Rattle.firing_core.specs.Entries.{entries_of};
 ghost use Rattle.report.specs.Logs.{log_text};
-ghost use Rattle.fc_inputs.specs.Causes.{Accepted, Refused};
-ghost use Rattle.fc_inputs.specs.Code.{value_of};
-ghost use Rattle.fc_inputs.specs.Sections.{AreWithin, WithThree};
-ghost use Rattle.fc_inputs.specs.Stops.{StopsFor};
-ghost use Rattle.fc_inputs.specs.Tables.{table_line, where_asked};
+ghost use Rattle.command_frame.specs.Causes.{Accepted, Refused};
+ghost use Rattle.command_frame.specs.Code.{value_of};
+ghost use Rattle.command_frame.specs.Sections.{AreWithin, WithThree};
+ghost use Rattle.command_frame.specs.Stops.{StopsFor};
+ghost use Rattle.command_frame.specs.Tables.{table_line, where_asked};
 ghost use Rattle.fc_values.specs.declared.limits.TheConstants.{MOST_BYTES};
 ghost use Rattle.fc_run.specs.Code.{ended_of};
 ghost use Rattle.fc_run.specs.Runs.{Runs};
 
 use crate::scripts::read_lines;
+use command_frame::{Answer, Stop, read_input, start, table_text, three_sections};
 use command_words::RunOptions;
 use edit_commands::scripts_are_judged;
 use export_table::Gate;
-use fc_inputs::{Answer, Stop, read_input, start, table_text, three_sections};
 use fc_values::Memory;
 use firing_core::Book;
 use report::entries;

@@ -4,11 +4,11 @@ ghost use Rattle.fc_nodes.specs.Program.{unfolding_of};
 ghost use Rattle.firing_core.specs.CoreViews.{core_of};
 ghost use Rattle.edit_commands.specs.Scripts.{AllCommandsFit, IsScript, numbered, script_of};
 ghost use Rattle.fc_values.specs.declared.limits.TheConstants.{MOST_BYTES};
-ghost use Rattle.fc_inputs.specs.Stops.{StopsFor};
+ghost use Rattle.command_frame.specs.Stops.{StopsFor};
 ghost use Rattle.fc_run.specs.Code.{IsRefused, script_stop};
 
+use command_frame::{Refusal, Stop, fault_in, script_refusal};
 use edit_commands::{Line, ScriptFault, read_script};
-use fc_inputs::{Refusal, Stop, fault_in, script_refusal};
 use fc_nodes::Unfolded;
 use firing_core::Core;
 use std::alloc::Global;

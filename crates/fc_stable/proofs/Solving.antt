@@ -13,15 +13,15 @@ use Rattle.net_json.specs.Scenes.{SceneValue}
 use Rattle.report.specs.Texts.{field_text}
 use Rattle.report.specs.Verdicts.{verdict_text}
 use Rattle.stable_field.proofs.OneField.{one_field}
-use Rattle.fc_inputs.specs.Agreement.{Agree}
-use Rattle.fc_inputs.specs.Answers.{AnswerValue, plain}
-use Rattle.fc_inputs.specs.Causes.{Judged, Accepted, answer_of}
-use Rattle.fc_inputs.specs.Inputs.{InputOf, ReadsInput}
-use Rattle.fc_inputs.specs.Owing.{HasStatus, IsZero}
-use Rattle.fc_inputs.specs.Starts.{InputsAreRead, start_of}
-use Rattle.fc_inputs.proofs.Agreeing.{both_plain}
-use Rattle.fc_inputs.proofs.KeptYes.{has_yes}
-use Rattle.fc_inputs.proofs.Owed.{plain_status, texts_owe, two_owe, zero_low}
+use Rattle.command_frame.specs.Agreement.{Agree}
+use Rattle.command_frame.specs.Answers.{AnswerValue, plain}
+use Rattle.command_frame.specs.Causes.{Judged, Accepted, answer_of}
+use Rattle.command_frame.specs.Inputs.{InputOf, ReadsInput}
+use Rattle.command_frame.specs.Owing.{HasStatus, IsZero}
+use Rattle.command_frame.specs.Starts.{InputsAreRead, start_of}
+use Rattle.command_frame.proofs.Agreeing.{both_plain}
+use Rattle.command_frame.proofs.KeptYes.{has_yes}
+use Rattle.command_frame.proofs.Owed.{plain_status, texts_owe, two_owe, zero_low}
 use Rattle.fc_stable.specs.Promises.{SolvesYes, StableOwes, stable_entries}
 use Rattle.fc_stable.specs.Stabilised.{StabilisedBy, StabilisesScene, Stabilised}
 

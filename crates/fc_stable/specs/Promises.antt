@@ -4,9 +4,9 @@ use Rattle.fc_values.specs.Fields.{Entries}
 use Rattle.topology.specs.Networks.{numbers}
 use Rattle.report.specs.Texts.{field_text}
 use Rattle.fc_values.specs.declared.limits.TheConstants.{MOST_BYTES}
-use Rattle.fc_inputs.specs.Owing.{IsZero, OfTwo, Owes}
-use Rattle.fc_inputs.specs.Sections.{AreWithin, WithTwo}
-use Rattle.fc_inputs.specs.Yes.{HasYes}
+use Rattle.command_frame.specs.Owing.{IsZero, OfTwo, Owes}
+use Rattle.command_frame.specs.Sections.{AreWithin, WithTwo}
+use Rattle.command_frame.specs.Yes.{HasYes}
 use Rattle.fc_stable.specs.Stabilised.{Stabilised}
 
 -- the values of the one field at all devices, rising

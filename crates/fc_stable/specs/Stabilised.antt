@@ -11,9 +11,9 @@ use Rattle.stable_field.specs.Stable.{IsStableField}
 use Rattle.net_json.specs.Scenes.{SceneValue}
 use Rattle.report.specs.Texts.{field_text}
 use Rattle.report.specs.Verdicts.{verdict_text}
-use Rattle.fc_inputs.specs.Answers.{AnswerValue, plain}
-use Rattle.fc_inputs.specs.Causes.{Judged, Accepted}
-use Rattle.fc_inputs.specs.Inputs.{OfScene}
+use Rattle.command_frame.specs.Answers.{AnswerValue, plain}
+use Rattle.command_frame.specs.Causes.{Judged, Accepted}
+use Rattle.command_frame.specs.Inputs.{OfScene}
 
 -- the lines of the field that solves a program on a network
 pub record WritesField (U : Unfolding) (N : Network) (answer : AnswerValue) : Type 0 where

@@ -2,8 +2,8 @@
 
 ghost use Rattle.fc_stable.specs.Promises.{StableOwes};
 
+use command_frame::inputs_are_read;
 use converge_laws::yes_stabilises;
-use fc_inputs::inputs_are_read;
 
 /// `stable` has one answer to each input. Where its status says yes, the verdict is a yes and is kept, and the one field
 /// is written.

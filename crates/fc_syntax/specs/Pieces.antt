@@ -1,14 +1,14 @@
 -- What is left to print of an expression: a stack of pieces, the first of them on top.
 use Rattle.std.specs.Prelude.{ℕ, ◌+◌, List, ◌++◌, codes, map, flat_map, reverse, sum_by, decimal}
-use Rattle.fc_syntax.specs.Terms.{Term, IntTerm, TruthTerm, VarTerm, UidTerm, NbrLinkTerm, SenseTerm, ApplyTerm}
-use Rattle.fc_syntax.specs.Terms.{NbrTerm, RepTerm, ShareTerm, IfTerm, LetTerm, CallTerm, Terms, NoTerms, MoreTerms}
+use Rattle.fc_syntax.specs.Terms.{SourceTerm, IntTerm, TruthTerm, VarTerm, UidTerm, NbrLinkTerm, SenseTerm, ApplyTerm}
+use Rattle.fc_syntax.specs.Terms.{NbrTerm, RepTerm, ShareTerm, IfTerm, LetTerm, CallTerm, SourceTerms, NoTerms, MoreTerms}
 use Rattle.fc_syntax.specs.Terms.{terms, term_of}
-use Rattle.fc_syntax.specs.Text.{text, placed, written, all_written, behind_commas}
+use Rattle.fc_syntax.specs.Text.{text, operand_text, written, all_written, behind_commas}
 use Rattle.fc_syntax.specs.declared.pieces.Piece.{Piece}
 use Rattle.fc_syntax.specs.declared.pieces.Piece.TheVariants as piece
 
 -- the text of a value that evolves, by the word and bracket that it begins with
-abbrev pub evolution_text : List ℕ → Term → List ℕ → Term → List ℕ
+abbrev pub evolution_text : List ℕ → SourceTerm → List ℕ → SourceTerm → List ℕ
 evolution_text word e x b = word ++ text e ++ codes "){(" ++ x ++ codes ") => " ++ text b ++ codes "}"
 
 -- the text of a piece
@@ -16,7 +16,7 @@ abbrev pub piece_text : Piece → List ℕ
 piece_text (piece.Text bytes) = bytes.now
 piece_text (piece.Number n) = decimal n
 piece_text (piece.Whole e) = text (term_of e.now)
-piece_text (piece.Operand e asks) = placed asks (written (term_of e.now))
+piece_text (piece.Operand e asks) = operand_text asks (written (term_of e.now))
 piece_text (piece.Rest es) = behind_commas (map (λ w. w.text) (all_written (terms (map term_of es.now))))
 
 -- the text of pieces, the first of them first
@@ -29,7 +29,7 @@ stack_text pieces = pieces_text (reverse pieces)
 
 -- a bound on how many pieces an expression comes to
 abbrev mutual
-  pub weight : Term → ℕ
+  pub weight : SourceTerm → ℕ
   weight (IntTerm n) = 2
   weight (TruthTerm b) = 2
   weight (VarTerm x) = 2
@@ -44,7 +44,7 @@ abbrev mutual
   weight (LetTerm x a b) = 5 + weight a + weight b
   weight (CallTerm f es) = 10 + weights es
 
-  pub weights : Terms → ℕ
+  pub weights : SourceTerms → ℕ
   weights NoTerms = 0
   weights (MoreTerms e es) = 2 + weight e + weights es
 

@@ -7,15 +7,16 @@ use Rattle.fc_values.specs.declared.builtins.Builtin.TheVariants as b
 use Rattle.fc_values.specs.BuiltinTypes.{arity}
 use Rattle.fc_values.specs.declared.types.InputTy.{InputTy}
 use Rattle.fc_values.specs.declared.types.InputTy.TheVariants as input
-use Rattle.fc_syntax.specs.Terms.{Term, IntTerm, TruthTerm, VarTerm, UidTerm, NbrLinkTerm, SenseTerm, ApplyTerm}
-use Rattle.fc_syntax.specs.Terms.{NbrTerm, RepTerm, ShareTerm, IfTerm, LetTerm, CallTerm, Terms, NoTerms, MoreTerms}
+use Rattle.fc_syntax.specs.Terms.{SourceTerm, IntTerm, TruthTerm, VarTerm, UidTerm, NbrLinkTerm, SenseTerm, ApplyTerm}
+use Rattle.fc_syntax.specs.Terms.{NbrTerm, RepTerm, ShareTerm, IfTerm, LetTerm, CallTerm, SourceTerms, NoTerms, MoreTerms}
 use Rattle.fc_syntax.specs.Terms.{Parameter, Declaration, LanguageIs, CeilingIs, InputIs, MetricIs, DefIs, MainIs}
 
 -- a number that a program may have
 abbrev pub IsNumber : ℕ → Type 0
 IsNumber n = n ≤ GREATEST
 
-abbrev pub count : Terms → ℕ
+-- how many expressions stand in a row
+abbrev pub count : SourceTerms → ℕ
 count NoTerms = 0
 count (MoreTerms e es) = count es + 1
 
@@ -26,7 +27,7 @@ IsOfLanguage second _ = Unit {0}
 
 -- an expression of the grammar of a language
 abbrev mutual
-  pub IsExpression : Bool → Term → Type 0
+  pub IsExpression : Bool → SourceTerm → Type 0
   IsExpression second (IntTerm n) = IsNumber n
   IsExpression second (TruthTerm b) = Unit {0}
   IsExpression second (VarTerm x) = IsName x
@@ -41,7 +42,7 @@ abbrev mutual
   IsExpression second (LetTerm x a b) = IsName x × IsExpression second a × IsExpression second b
   IsExpression second (CallTerm f es) = IsName f × AreExpressions second es
 
-  pub AreExpressions : Bool → Terms → Type 0
+  pub AreExpressions : Bool → SourceTerms → Type 0
   AreExpressions second NoTerms = Unit {0}
   AreExpressions second (MoreTerms e es) = IsExpression second e × AreExpressions second es
 

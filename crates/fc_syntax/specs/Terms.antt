@@ -12,31 +12,31 @@ use Rattle.fc_syntax.specs.declared.tree.Program.{Program}
 
 -- an expression, whose names are lists of bytes, and the expressions in a row that it holds
 mutual
-  pub data Term : Type 0 where
-    IntTerm : ℕ → Term
-    TruthTerm : Bool → Term
-    VarTerm : List ℕ → Term
-    UidTerm : Term
-    NbrLinkTerm : Term
-    SenseTerm : List ℕ → Term
-    ApplyTerm : Builtin → Terms → Term
-    NbrTerm : Term → Term
-    RepTerm : Term → List ℕ → Term → Term
-    ShareTerm : Term → List ℕ → Term → Term
-    IfTerm : Term → Term → Term → Term
-    LetTerm : List ℕ → Term → Term → Term
-    CallTerm : List ℕ → Terms → Term
+  pub data SourceTerm : Type 0 where
+    IntTerm : ℕ → SourceTerm
+    TruthTerm : Bool → SourceTerm
+    VarTerm : List ℕ → SourceTerm
+    UidTerm : SourceTerm
+    NbrLinkTerm : SourceTerm
+    SenseTerm : List ℕ → SourceTerm
+    ApplyTerm : Builtin → SourceTerms → SourceTerm
+    NbrTerm : SourceTerm → SourceTerm
+    RepTerm : SourceTerm → List ℕ → SourceTerm → SourceTerm
+    ShareTerm : SourceTerm → List ℕ → SourceTerm → SourceTerm
+    IfTerm : SourceTerm → SourceTerm → SourceTerm → SourceTerm
+    LetTerm : List ℕ → SourceTerm → SourceTerm → SourceTerm
+    CallTerm : List ℕ → SourceTerms → SourceTerm
 
-  pub data Terms : Type 0 where
-    NoTerms : Terms
-    MoreTerms : Term → Terms → Terms
+  pub data SourceTerms : Type 0 where
+    NoTerms : SourceTerms
+    MoreTerms : SourceTerm → SourceTerms → SourceTerms
 
 -- expressions in a row, from a list
-abbrev pub terms : List Term → Terms
+abbrev pub terms : List SourceTerm → SourceTerms
 terms [] = NoTerms
 terms (e ∷ es) = MoreTerms e (terms es)
 
-abbrev pub term_step : Expr-F Term → Term
+abbrev pub term_step : Expr-F SourceTerm → SourceTerm
 term_step (Expr-F.Int n) = IntTerm n
 term_step (Expr-F.Truth b) = TruthTerm b
 term_step (Expr-F.Var x) = VarTerm x.text.items
@@ -52,8 +52,8 @@ term_step (Expr-F.Let x a b) = LetTerm x.text.items a.value b.value
 term_step (Expr-F.Call f args) = CallTerm f.text.items (terms args.items)
 
 -- the expression that a tree is
-abbrev pub term_of : Expr → Term
-term_of = fold-Expr Term term_step
+abbrev pub term_of : Expr → SourceTerm
+term_of = fold-Expr SourceTerm term_step
 
 -- a parameter: its name and its type
 pub record Parameter : Type 0 where
@@ -69,8 +69,8 @@ pub data Declaration : Type 0 where
   CeilingIs : ℕ → Declaration
   InputIs : List ℕ → InputTy → Declaration
   MetricIs : ℕ → ℕ → Declaration
-  DefIs : List ℕ → List Parameter → ValueType → Term → Declaration
-  MainIs : Term → Declaration
+  DefIs : List ℕ → List Parameter → ValueType → SourceTerm → Declaration
+  MainIs : SourceTerm → Declaration
 
 abbrev pub declaration_of : Decl → Declaration
 declaration_of (decl.Language n) = LanguageIs n

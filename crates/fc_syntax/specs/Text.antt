@@ -6,8 +6,8 @@ use Rattle.fc_values.specs.declared.builtins.Builtin.TheVariants as b
 use Rattle.fc_values.specs.declared.types.InputTy.{InputTy}
 use Rattle.fc_values.specs.declared.types.InputTy.TheVariants as input
 use Rattle.fc_values.specs.Types.{LocalType, IntType, BoolType, PairType, ValueType, TypeLocal, TypeField}
-use Rattle.fc_syntax.specs.Terms.{Term, IntTerm, TruthTerm, VarTerm, UidTerm, NbrLinkTerm, SenseTerm, ApplyTerm}
-use Rattle.fc_syntax.specs.Terms.{NbrTerm, RepTerm, ShareTerm, IfTerm, LetTerm, CallTerm, Terms, NoTerms, MoreTerms}
+use Rattle.fc_syntax.specs.Terms.{SourceTerm, IntTerm, TruthTerm, VarTerm, UidTerm, NbrLinkTerm, SenseTerm, ApplyTerm}
+use Rattle.fc_syntax.specs.Terms.{NbrTerm, RepTerm, ShareTerm, IfTerm, LetTerm, CallTerm, SourceTerms, NoTerms, MoreTerms}
 use Rattle.fc_syntax.specs.Terms.{Parameter, Declaration, LanguageIs, CeilingIs, InputIs, MetricIs, DefIs, MainIs}
 
 -- the strength of a builtin's form
@@ -46,7 +46,7 @@ builtin_word b.AllHood = codes "allHood"
 builtin_word b.Rise = codes "rise"
 
 -- the strength of an expression's form
-abbrev pub strength : Term → ℕ
+abbrev pub strength : SourceTerm → ℕ
 strength (LetTerm x a b) = 0
 strength (ApplyTerm b es) = builtin_strength b
 strength _ = 7
@@ -57,8 +57,8 @@ pub record Written : Type 0 where
   pub text : List ℕ
 
 -- an operand at its place: in round brackets exactly where its strength is below the one that the place asks
-abbrev pub placed : ℕ → Written → List ℕ
-placed asks w = if nat_lt w.strength asks then codes "(" ++ w.text ++ codes ")" else w.text
+abbrev pub operand_text : ℕ → Written → List ℕ
+operand_text asks w = if nat_lt w.strength asks then codes "(" ++ w.text ++ codes ")" else w.text
 
 -- what a left operand's place asks, by the operator's strength: that strength, and at a comparison 4
 abbrev pub left_asks : ℕ → ℕ
@@ -80,15 +80,16 @@ call_text word args = word ++ codes "(" ++ with_commas (map (λ w. w.text) args)
 -- an operator between its operands
 abbrev pub between_text : Builtin → Written → Written → List ℕ
 between_text b left right =
-    placed (left_asks (builtin_strength b)) left ++ codes " " ++ builtin_word b ++ codes " "
-    ++ placed (builtin_strength b + 1) right
+    operand_text (left_asks (builtin_strength b)) left ++ codes " " ++ builtin_word b ++ codes " "
+    ++ operand_text (builtin_strength b + 1) right
 
 -- A builtin and its arguments. An operator that has another number of operands than the grammar gives it, which no
 -- program of the grammar holds, is written as `min` is.
 abbrev pub apply_text : Builtin → List Written → List ℕ
 apply_text b [] = call_text (builtin_word b) []
 apply_text b (x ∷ []) =
-    if builtin_strength b == 6 then builtin_word b ++ codes " " ++ placed 6 x else call_text (builtin_word b) (x ∷ [])
+    if builtin_strength b == 6 then builtin_word b ++ codes " " ++ operand_text 6 x
+    else call_text (builtin_word b) (x ∷ [])
 apply_text b (x ∷ y ∷ []) =
     if nat_lt (builtin_strength b) 6 then between_text b x y else call_text (builtin_word b) (x ∷ y ∷ [])
 apply_text b (x ∷ y ∷ z ∷ rest) = call_text (builtin_word b) (x ∷ y ∷ z ∷ rest)
@@ -99,7 +100,7 @@ truth_text false = codes "false"
 
 -- the text of an expression without brackets round it, as where its place asks 0
 abbrev mutual
-  pub text : Term → List ℕ
+  pub text : SourceTerm → List ℕ
   text (IntTerm n) = decimal n
   text (TruthTerm b) = truth_text b
   text (VarTerm x) = x
@@ -114,12 +115,12 @@ abbrev mutual
   text (LetTerm x a b) = codes "let " ++ x ++ codes " = " ++ text a ++ codes " in " ++ text b
   text (CallTerm f es) = call_text f (all_written es)
 
-  pub all_written : Terms → List Written
+  pub all_written : SourceTerms → List Written
   all_written NoTerms = []
   all_written (MoreTerms e es) = record { strength = strength e; text = text e } ∷ all_written es
 
 -- an expression as it is written
-abbrev pub written : Term → Written
+abbrev pub written : SourceTerm → Written
 written e = record { strength = strength e; text = text e }
 
 abbrev pub local_type_text : LocalType → List ℕ

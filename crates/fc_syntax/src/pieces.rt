@@ -2,7 +2,7 @@
 
 ghost use Rattle.std.specs.Prelude.{◌≡◌, ◌+◌, ◌≤◌, ◌<◌, ◌∷◌, ◌++◌, IfOk, map};
 ghost use Rattle.fc_syntax.specs.Terms.{IfTerm, LetTerm, term_of, terms};
-ghost use Rattle.fc_syntax.specs.Text.{apply_text, behind_commas, call_text, placed, all_written, text, written};
+ghost use Rattle.fc_syntax.specs.Text.{apply_text, behind_commas, call_text, operand_text, all_written, text, written};
 ghost use Rattle.fc_syntax.specs.Pieces.{evolution_text, pieces_text, pieces_weight, stack_text, weight, weights};
 
 use crate::tree::Expr;
@@ -143,7 +143,7 @@ fn push_binding<'a>(
 
 /// Puts the pieces of an operand on the stack, in brackets where its place asks more than its strength.
 pub fn push_operand<'a>(stack: &mut Vec<Piece<'a>>, expr: &'a Expr, asks: u32) -> Result<(), Memory>
-    ensures text { IfOk result (λ _. stack_text stack.new.items ≡ placed asks (written (term_of expr.now))
+    ensures text { IfOk result (λ _. stack_text stack.new.items ≡ operand_text asks (written (term_of expr.now))
         ++ stack_text stack.old.items) }
     ensures weight { IfOk result (λ _. pieces_weight stack.new.items
         < 3 + weight (term_of expr.now) + pieces_weight stack.old.items) }

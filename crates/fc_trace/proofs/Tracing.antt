@@ -17,15 +17,15 @@ use Rattle.walk_form.specs.Forms.{WalkTerms, walk_terms}
 use Rattle.walk_form.specs.Laws.{FormsHaveCosts, IsLeastAt, OneCosts, SolutionsAreLeast}
 use Rattle.net_json.specs.Scenes.{SceneValue}
 use Rattle.report.specs.Verdicts.{verdict_text}
-use Rattle.fc_inputs.specs.Agreement.{Agree}
-use Rattle.fc_inputs.specs.Answers.{AnswerValue, plain}
-use Rattle.fc_inputs.specs.Causes.{Judged, Accepted, answer_of}
-use Rattle.fc_inputs.specs.Inputs.{InputOf, ReadsInput}
-use Rattle.fc_inputs.specs.Owing.{HasStatus}
-use Rattle.fc_inputs.specs.Starts.{InputsAreRead, start_of}
-use Rattle.fc_inputs.proofs.Agreeing.{both_plain}
-use Rattle.fc_inputs.proofs.KeptYes.{at_program, has_yes, yes_kept}
-use Rattle.fc_inputs.proofs.Owed.{plain_status, texts_owe, two_owe}
+use Rattle.command_frame.specs.Agreement.{Agree}
+use Rattle.command_frame.specs.Answers.{AnswerValue, plain}
+use Rattle.command_frame.specs.Causes.{Judged, Accepted, answer_of}
+use Rattle.command_frame.specs.Inputs.{InputOf, ReadsInput}
+use Rattle.command_frame.specs.Owing.{HasStatus}
+use Rattle.command_frame.specs.Starts.{InputsAreRead, start_of}
+use Rattle.command_frame.proofs.Agreeing.{both_plain}
+use Rattle.command_frame.proofs.KeptYes.{at_program, has_yes, yes_kept}
+use Rattle.command_frame.proofs.Owed.{plain_status, texts_owe, two_owe}
 use Rattle.fc_trace.specs.Promises.{TraceKept, TraceOwes, TracesYes}
 use Rattle.fc_trace.specs.Texts.{walks_text}
 use Rattle.fc_trace.specs.Traces.{WritesWalks, TracedBy, TracesScene, Traces}

@@ -12,11 +12,11 @@ use Rattle.walk_form.specs.Costs.{AreCostsOf}
 use Rattle.walk_form.specs.Laws.{IsLeastAt}
 use Rattle.report.specs.Verdicts.{verdict_text}
 use Rattle.fc_values.specs.declared.limits.TheConstants.{MOST_BYTES}
-use Rattle.fc_inputs.specs.Causes.{Accepted}
-use Rattle.fc_inputs.specs.Inputs.{ReadsInput}
-use Rattle.fc_inputs.specs.Owing.{OfTwo, Owes}
-use Rattle.fc_inputs.specs.Sections.{AreWithin, WithTwo}
-use Rattle.fc_inputs.specs.Yes.{HasYes, KeepsYes}
+use Rattle.command_frame.specs.Causes.{Accepted}
+use Rattle.command_frame.specs.Inputs.{ReadsInput}
+use Rattle.command_frame.specs.Owing.{OfTwo, Owes}
+use Rattle.command_frame.specs.Sections.{AreWithin, WithTwo}
+use Rattle.command_frame.specs.Yes.{HasYes, YesHolds}
 use Rattle.fc_trace.specs.Texts.{walks_text}
 use Rattle.fc_trace.specs.Traces.{Traces}
 
@@ -39,7 +39,7 @@ pub record TraceKept (program network : List ℕ) (status : ℕ) (text : List �
   pub unfolded : Unfolding
   pub scene : SceneValue
   pub reads : ReadsInput program network (Accepted (unfolded, scene))
-  pub yes : KeepsYes unfolded scene.net
+  pub yes : YesHolds unfolded scene.net
   pub behind : List ℕ
   pub writes : text ≡ verdict_text (verdict_of unfolded (length scene.net.devices)) ++ behind
   pub walks : status ≡ 0 → TracesYes program network text

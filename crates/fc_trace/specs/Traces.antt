@@ -11,9 +11,9 @@ use Rattle.walk_form.specs.Costs.{AreCostsFor}
 use Rattle.walk_form.specs.Forms.{WalkTerms, walk_terms}
 use Rattle.net_json.specs.Scenes.{SceneValue}
 use Rattle.report.specs.Verdicts.{verdict_text}
-use Rattle.fc_inputs.specs.Answers.{AnswerValue, plain}
-use Rattle.fc_inputs.specs.Causes.{Judged, Accepted}
-use Rattle.fc_inputs.specs.Inputs.{OfScene}
+use Rattle.command_frame.specs.Answers.{AnswerValue, plain}
+use Rattle.command_frame.specs.Causes.{Judged, Accepted}
+use Rattle.command_frame.specs.Inputs.{OfScene}
 use Rattle.fc_trace.specs.Texts.{walks_text}
 
 -- behind a line, for each device its least cost and its best walk

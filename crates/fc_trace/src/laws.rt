@@ -2,8 +2,8 @@
 
 ghost use Rattle.fc_trace.specs.Promises.{TraceOwes};
 
+use command_frame::inputs_are_read;
 use converge_laws::yes_stabilises;
-use fc_inputs::inputs_are_read;
 use walk_form::{forms_have_costs, one_costs, solutions_are_least};
 use walks::walks_are_one;
 

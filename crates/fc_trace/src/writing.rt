@@ -3,7 +3,7 @@
 ghost use Rattle.std.specs.Prelude.{◌≡◌, ◌++◌, IfOk, OnOk, codes};
 ghost use Rattle.std.specs.Fmt.{decimal};
 ghost use Rattle.walks.specs.Walks.{claim_of, evidence_of};
-ghost use Rattle.fc_trace.specs.Texts.{after_space, numbers_after, walk_line, walks_text};
+ghost use Rattle.fc_trace.specs.Texts.{number_after_space, numbers_after, walk_line, walks_text};
 
 use fc_values::Memory;
 use std::alloc::Global;
@@ -42,7 +42,7 @@ fn write_numbers(alloc: Global, out: &mut Vec<u8>, numbers: &[u32]) -> Result<()
 
 // Appends a number after a space.
 fn write_after_space(alloc: Global, out: &mut Vec<u8>, number: u32) -> Result<(), Memory>
-    ensures { OnOk result (out.new.items ≡ out.old.items ++ after_space number) }
+    ensures { OnOk result (out.new.items ≡ out.old.items ++ number_after_space number) }
 {
     out.push(b' ')?;
     write_number(alloc, out, number)

@@ -4,26 +4,26 @@ use Rattle.fc_values.specs.Types.{ValueType}
 use Rattle.fc_syntax.specs.declared.tree.Expr.{Expr}
 use Rattle.fc_syntax.specs.Terms.{term_of, terms}
 use Rattle.fc_types.specs.declared.faults.TypeKind.{TypeKind}
-use Rattle.fc_types.specs.declared.refusal.Refusal.{Refusal}
-use Rattle.fc_types.specs.declared.refusal.Refusal.TheVariants as refusal
+use Rattle.fc_types.specs.declared.refusal.TypeRefusal.{TypeRefusal}
+use Rattle.fc_types.specs.declared.refusal.TypeRefusal.TheVariants as refusal
 use Rattle.fc_types.specs.Views.{IfKind}
-use Rattle.fc_types.specs.Before.{Before, Scope}
-use Rattle.fc_types.specs.Judging.{Judgement, TypeIs, FaultIs, Judgements, TypesAre, FaultAmong, row_of, judge, judge_all}
+use Rattle.fc_types.specs.Before.{Earlier, Scope}
+use Rattle.fc_types.specs.Judging.{JudgedType, TypeFound, FaultFound, JudgedTypes, TypesAre, FaultAmong, row_of, judge, judge_all}
 
-row_types : (j : Judgement) (js : Judgements) (ts : List ValueType) → row_of j js ≡ TypesAre ts → (t : ValueType) × (us : List ValueType) × (j ≡ TypeIs t) × (js ≡ TypesAre us) × (ts ≡ t ∷ us)
-row_types (TypeIs t) (TypesAre us) ts h = (t, us, refl, refl, cc)
-row_types (TypeIs t) (FaultAmong k) ts h = absurd cc
-row_types (FaultIs k) js ts h = absurd cc
+row_types : (j : JudgedType) (js : JudgedTypes) (ts : List ValueType) → row_of j js ≡ TypesAre ts → (t : ValueType) × (us : List ValueType) × (j ≡ TypeFound t) × (js ≡ TypesAre us) × (ts ≡ t ∷ us)
+row_types (TypeFound t) (TypesAre us) ts h = (t, us, refl, refl, cc)
+row_types (TypeFound t) (FaultAmong k) ts h = absurd cc
+row_types (FaultFound k) js ts h = absurd cc
 
-row_put : (j : Judgement) (js : Judgements) (t : ValueType) (us : List ValueType) → j ≡ TypeIs t → js ≡ TypesAre us → row_of j js ≡ TypesAre (t ∷ us)
+row_put : (j : JudgedType) (js : JudgedTypes) (t : ValueType) (us : List ValueType) → j ≡ TypeFound t → js ≡ TypesAre us → row_of j js ≡ TypesAre (t ∷ us)
 row_put j js t us e f = rw (e, f) refl
 
-module _ (B : Before) (scope : Scope) where
+module _ (B : Earlier) (scope : Scope) where
   pub row_more : (xs : List Expr) (i : ℕ) (x : Expr) (ts : List ValueType) (t : ValueType) → i < length xs → x ≡ get_or xs i x → judge_all B scope (terms (map term_of (take i xs))) ≡ TypesAre ts →
-      judge B scope (term_of x) ≡ TypeIs t → judge_all B scope (terms (map term_of (take (suc i) xs))) ≡ TypesAre (ts ++ t ∷ [])
+      judge B scope (term_of x) ≡ TypeFound t → judge_all B scope (terms (map term_of (take (suc i) xs))) ≡ TypesAre (ts ++ t ∷ [])
   row_more [] i x ts t l q h j = absurd (omega arith)
   row_more (y ∷ ys) zero x ts t l q h j =
-      let e : judge B scope (term_of y) ≡ TypeIs t = rw q at j in
+      let e : judge B scope (term_of y) ≡ TypeFound t = rw q at j in
       let none : ts ≡ [] = cc in rw (none, e) refl
   row_more (y ∷ ys) (suc i) x ts t l q h j =
       let r = row_types (judge B scope (term_of y)) (judge_all B scope (terms (map term_of (take i ys)))) ts h in
@@ -32,16 +32,16 @@ module _ (B : Before) (scope : Scope) where
       ∙ ap (λ (us : List ValueType). TypesAre (us ++ t ∷ [])) (sym r.4)
 
   pub row_fault : (xs : List Expr) (i : ℕ) (x : Expr) (ts : List ValueType) (k : TypeKind) → i < length xs → x ≡ get_or xs i x → judge_all B scope (terms (map term_of (take i xs))) ≡ TypesAre ts →
-      judge B scope (term_of x) ≡ FaultIs k → judge_all B scope (terms (map term_of xs)) ≡ FaultAmong k
+      judge B scope (term_of x) ≡ FaultFound k → judge_all B scope (terms (map term_of xs)) ≡ FaultAmong k
   row_fault [] i x ts k l q h j = absurd (omega arith)
-  row_fault (y ∷ ys) zero x ts k l q h j = let e : judge B scope (term_of y) ≡ FaultIs k = rw q at j in rw e refl
+  row_fault (y ∷ ys) zero x ts k l q h j = let e : judge B scope (term_of y) ≡ FaultFound k = rw q at j in rw e refl
   row_fault (y ∷ ys) (suc i) x ts k l q h j =
       let r = row_types (judge B scope (term_of y)) (judge_all B scope (terms (map term_of (take i ys)))) ts h in
       let ih = row_fault ys i x r.1 k (omega arith) q r.3 j in
       let e = r.2 in
       rw (e, ih) refl
 
-  pub fault_along : (xs : List Expr) (i : ℕ) (x : Expr) (ts : List ValueType) (r : Refusal) → i < length xs → x ≡ get_or xs i x → judge_all B scope (terms (map term_of (take i xs))) ≡ TypesAre ts →
-      IfKind r (λ k. judge B scope (term_of x) ≡ FaultIs k) → IfKind r (λ k. judge_all B scope (terms (map term_of xs)) ≡ FaultAmong k)
+  pub fault_along : (xs : List Expr) (i : ℕ) (x : Expr) (ts : List ValueType) (r : TypeRefusal) → i < length xs → x ≡ get_or xs i x → judge_all B scope (terms (map term_of (take i xs))) ≡ TypesAre ts →
+      IfKind r (λ k. judge B scope (term_of x) ≡ FaultFound k) → IfKind r (λ k. judge_all B scope (terms (map term_of xs)) ≡ FaultAmong k)
   fault_along xs i x ts (refusal.Kind k) l q h j = row_fault xs i x ts k l q h j
   fault_along xs i x ts refusal.Memory l q h j = tt

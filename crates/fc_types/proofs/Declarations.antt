@@ -5,16 +5,16 @@ use Rattle.fc_values.specs.declared.types.InputTy.{InputTy}
 use Rattle.fc_values.specs.declared.types.InputTy.TheVariants as input
 use Rattle.fc_values.specs.Types.{ValueType, TypeLocal, TypeField, Input, IsRange, leaves}
 use Rattle.fc_values.specs.BuiltinTypes.{inner}
-use Rattle.fc_syntax.specs.Terms.{Term, Parameter, Declaration, LanguageIs, CeilingIs, InputIs, MetricIs, DefIs, MainIs}
+use Rattle.fc_syntax.specs.Terms.{SourceTerm, Parameter, Declaration, LanguageIs, CeilingIs, InputIs, MetricIs, DefIs, MainIs}
 use Rattle.fc_types.specs.declared.faults.TypeFault.{TypeFault}
 use Rattle.fc_types.specs.declared.faults.TypeFault.TheVariants as fault
 use Rattle.fc_types.specs.declared.faults.TypeKind.{TypeKind}
 use Rattle.fc_types.specs.declared.faults.TypeKind.TheVariants as kind
-use Rattle.fc_types.specs.Before.{Function, Before, nothing, and_then, input_named, function_named, Scope, type_in}
+use Rattle.fc_types.specs.Before.{Function, Earlier, nothing_declared, with_declaration, input_named, function_named, Scope, type_in}
 use Rattle.fc_types.specs.Typing.{IsFree, IsNarrow, HasType, IsInputRange, AreParameters, IsTypedDeclaration, AreTyped}
 use Rattle.fc_types.specs.Faults.{IsBound, IsWide, IsNew, ParameterFault, parameter_twice, parameter_wide, parameter_later, IsNoRange, DeclarationFault, ceiling_range, input_twice, input_range, metric_twice, metric_range, def_twice, def_parameter, def_wide, def_body, def_result, main_expression, main_not_local, FirstFaultFrom, here, later, FirstFault}
 use Rattle.fc_types.specs.Views.{IfFault, IsMemory, IsFaultOrMemory}
-use Rattle.fc_types.specs.Judging.{Judgement, TypeIs, FaultIs, judge, fault_where, fault_unless, fault_if, or_fault, range_fault, input_fault, width_fault, parameter_fault, body_fault, main_fault, same_type, declaration_fault}
+use Rattle.fc_types.specs.Judging.{JudgedType, TypeFound, FaultFound, judge, fault_where, fault_unless, fault_if, or_fault, range_fault, input_fault, width_fault, parameter_fault, body_fault, main_fault, same_type, declaration_fault}
 use Rattle.fc_types.proofs.Same.{same_type_refl, same_type_is, types_differ}
 use Rattle.fc_types.proofs.Judged.{JudgementHolds, judged, type_judged, fault_judged}
 
@@ -65,32 +65,32 @@ parameters_hold before (p ∷ ps) =
     rest f n None h = (f, n, h)
     rest f n (Some k) h = parameter_later f n h
 
-abbrev pub IsJudged : Before → Declaration → Option TypeKind → Type 0
+abbrev pub IsJudged : Earlier → Declaration → Option TypeKind → Type 0
 IsJudged B d o = FaultOr (IsTypedDeclaration B d) (DeclarationFault B d) o
 
-input_holds : (B : Before) (x : List ℕ) (t : InputTy) (o : Option Input) → input_named x B.inputs ≡ o → IsJudged B (InputIs x t) (fault_if o kind.Twice (input_fault B.ceiling t))
+input_holds : (B : Earlier) (x : List ℕ) (t : InputTy) (o : Option Input) → input_named x B.inputs ≡ o → IsJudged B (InputIs x t) (fault_if o kind.Twice (input_fault B.ceiling t))
 input_holds B x t (Some i) e = input_twice e
 input_holds B x input.Truth None e = (e, tt)
 input_holds B x (input.Whole least greatest) None e =
     range_holds B.ceiling least greatest (IsTypedDeclaration B (InputIs x (input.Whole least greatest))) (DeclarationFault B (InputIs x (input.Whole least greatest))) (λ r. (e, r)) (λ r. input_range e r)
 
-metric_holds : (B : Before) (least greatest : ℕ) (o : Option (ℕ × ℕ)) → B.metric ≡ o → IsJudged B (MetricIs least greatest) (fault_if o kind.Twice (range_fault B.ceiling least greatest))
+metric_holds : (B : Earlier) (least greatest : ℕ) (o : Option (ℕ × ℕ)) → B.metric ≡ o → IsJudged B (MetricIs least greatest) (fault_if o kind.Twice (range_fault B.ceiling least greatest))
 metric_holds B least greatest (Some m) e = metric_twice e
 metric_holds B least greatest None e =
     range_holds B.ceiling least greatest (IsTypedDeclaration B (MetricIs least greatest)) (DeclarationFault B (MetricIs least greatest)) (λ r. (e, r)) (λ r. metric_range e r)
 
-ceiling_holds : (B : Before) (n : ℕ) (b : Bool) → (n == 0) ≡ b → IsJudged B (CeilingIs n) (fault_where b kind.Range None)
+ceiling_holds : (B : Earlier) (n : ℕ) (b : Bool) → (n == 0) ≡ b → IsJudged B (CeilingIs n) (fault_where b kind.Range None)
 ceiling_holds B n true e = ceiling_range (eqb-true n 0 e)
 ceiling_holds B n false e = let d = eqb-false n 0 e in omega (arith, d)
 
-module _ (B : Before) (f : List ℕ) (ps : List Parameter) (r : ValueType) (e : Term) where
+module _ (B : Earlier) (f : List ℕ) (ps : List Parameter) (r : ValueType) (e : SourceTerm) where
   body_same : (t : ValueType) → IsNew f B → AreParameters [] ps → IsNarrow r → HasType B ps e t → (b : Bool) → same_type t r ≡ b → IsJudged B (DefIs f ps r e) (fault_unless b kind.Result)
   body_same t new params narrow h true q = let q' : t ≡ r = same_type_is t r q in let h' = rw q' at h in (new, params, narrow, h')
   body_same t new params narrow h false q = def_result new params narrow h (types_differ t r q)
 
-  body_holds : IsNew f B → AreParameters [] ps → IsNarrow r → (j : Judgement) → JudgementHolds B ps e j → IsJudged B (DefIs f ps r e) (body_fault r j)
-  body_holds new params narrow (TypeIs t) h = body_same t new params narrow h (same_type t r) refl
-  body_holds new params narrow (FaultIs k) h = def_body new params narrow h
+  body_holds : IsNew f B → AreParameters [] ps → IsNarrow r → (j : JudgedType) → JudgementHolds B ps e j → IsJudged B (DefIs f ps r e) (body_fault r j)
+  body_holds new params narrow (TypeFound t) h = body_same t new params narrow h (same_type t r) refl
+  body_holds new params narrow (FaultFound k) h = def_body new params narrow h
 
   result_holds : IsNew f B → AreParameters [] ps → IsJudged B (DefIs f ps r e) (or_fault (width_fault r) (body_fault r (judge B ps e)))
   result_holds new params =
@@ -106,12 +106,12 @@ module _ (B : Before) (f : List ℕ) (ps : List Parameter) (r : ValueType) (e : 
   def_holds (Some g) q = def_twice (g, q)
   def_holds None q = def_params q (parameter_fault [] ps) (parameters_hold [] ps)
 
-main_holds : (B : Before) (e : Term) (j : Judgement) → JudgementHolds B [] e j → IsJudged B (MainIs e) (main_fault j)
-main_holds B e (TypeIs (TypeLocal t)) h = (t, h)
-main_holds B e (TypeIs (TypeField t)) h = main_not_local h
-main_holds B e (FaultIs k) h = main_expression h
+main_holds : (B : Earlier) (e : SourceTerm) (j : JudgedType) → JudgementHolds B [] e j → IsJudged B (MainIs e) (main_fault j)
+main_holds B e (TypeFound (TypeLocal t)) h = (t, h)
+main_holds B e (TypeFound (TypeField t)) h = main_not_local h
+main_holds B e (FaultFound k) h = main_expression h
 
-pub declaration_holds : (B : Before) (d : Declaration) → IsJudged B d (declaration_fault B d)
+pub declaration_holds : (B : Earlier) (d : Declaration) → IsJudged B d (declaration_fault B d)
 declaration_holds B (LanguageIs n) = tt
 declaration_holds B (CeilingIs n) = ceiling_holds B n (n == 0) refl
 declaration_holds B (InputIs x t) = input_holds B x t (input_named x B.inputs) refl
@@ -134,7 +134,7 @@ input_none : (ceiling : ℕ) (t : InputTy) → IsInputRange ceiling t → input_
 input_none ceiling input.Truth h = refl
 input_none ceiling (input.Whole least greatest) h = range_none ceiling least greatest h
 
-pub typed_none : (B : Before) (d : Declaration) → IsTypedDeclaration B d → declaration_fault B d ≡ None
+pub typed_none : (B : Earlier) (d : Declaration) → IsTypedDeclaration B d → declaration_fault B d ≡ None
 typed_none B (LanguageIs n) h = refl
 typed_none B (CeilingIs n) h = let d : n ≡ 0 → ⊥ = (λ q. absurd (omega arith)) in let e = ne_eqb n 0 d in rw e refl
 typed_none B (InputIs x t) h = let e = h.0 in let i = input_none B.ceiling t h.1 in rw e i
@@ -166,7 +166,7 @@ differs : (t r : ValueType) → (t ≡ r → ⊥) → (b : Bool) → same_type t
 differs t r d true e = absurd (d (same_type_is t r e))
 differs t r d false e = refl
 
-pub fault_some : {B : Before} {d : Declaration} {k : TypeKind} → DeclarationFault B d k → declaration_fault B d ≡ Some k
+pub fault_some : {B : Earlier} {d : Declaration} {k : TypeKind} → DeclarationFault B d k → declaration_fault B d ≡ Some k
 fault_some (ceiling_range e) = rw e refl
 fault_some (input_twice e) = rw e refl
 fault_some (input_range {B = B} {least = least} {greatest = greatest} e r) = let i = range_some B.ceiling least greatest r in rw e i
@@ -182,34 +182,34 @@ fault_some (main_expression h) = let j = fault_judged h in rw j refl
 fault_some (main_not_local h) = let j = type_judged h in rw j refl
 
 -- whole programs
-abbrev pub TypedOrFault : ℕ → Before → List Declaration → Type 0
+abbrev pub TypedOrFault : ℕ → Earlier → List Declaration → Type 0
 TypedOrFault n B ds = AreTyped B ds ⊎ ((m : ℕ) × (k : TypeKind) × FirstFaultFrom n B ds m k)
 
-module _ (n : ℕ) (B : Before) (d : Declaration) (ds : List Declaration) where
-  one_more : IsTypedDeclaration B d → TypedOrFault (suc n) (and_then B d) ds → TypedOrFault n B (d ∷ ds)
+module _ (n : ℕ) (B : Earlier) (d : Declaration) (ds : List Declaration) where
+  one_more : IsTypedDeclaration B d → TypedOrFault (suc n) (with_declaration B d) ds → TypedOrFault n B (d ∷ ds)
   one_more h (inl a) = inl (h, a)
   one_more h (inr f) = inr (f.0, f.1, later h f.2)
 
-  first_or_rest : (o : Option TypeKind) → IsJudged B d o → TypedOrFault (suc n) (and_then B d) ds → TypedOrFault n B (d ∷ ds)
+  first_or_rest : (o : Option TypeKind) → IsJudged B d o → TypedOrFault (suc n) (with_declaration B d) ds → TypedOrFault n B (d ∷ ds)
   first_or_rest None h r = one_more h r
   first_or_rest (Some k) h r = inr (n, k, here h)
 
-pub typed_or_fault : (n : ℕ) (B : Before) (ds : List Declaration) → TypedOrFault n B ds
+pub typed_or_fault : (n : ℕ) (B : Earlier) (ds : List Declaration) → TypedOrFault n B ds
 typed_or_fault n B [] = inl tt
-typed_or_fault n B (d ∷ ds) = first_or_rest n B d ds (declaration_fault B d) (declaration_holds B d) (typed_or_fault (suc n) (and_then B d) ds)
+typed_or_fault n B (d ∷ ds) = first_or_rest n B d ds (declaration_fault B d) (declaration_holds B d) (typed_or_fault (suc n) (with_declaration B d) ds)
 
-pub not_typed : {n : ℕ} {B : Before} {ds : List Declaration} {m : ℕ} {k : TypeKind} → AreTyped B ds → FirstFaultFrom n B ds m k → ⊥
+pub not_typed : {n : ℕ} {B : Earlier} {ds : List Declaration} {m : ℕ} {k : TypeKind} → AreTyped B ds → FirstFaultFrom n B ds m k → ⊥
 not_typed {B = B} a (here {d = d} f) = let e = typed_none B d a.0 in let g = fault_some f in cc
 not_typed a (later h f) = not_typed a.1 f
 
-pub one_first : {n : ℕ} {B : Before} {ds : List Declaration} {m m' : ℕ} {k l : TypeKind} → FirstFaultFrom n B ds m k → FirstFaultFrom n B ds m' l → (m ≡ m') × (k ≡ l)
+pub one_first : {n : ℕ} {B : Earlier} {ds : List Declaration} {m m' : ℕ} {k l : TypeKind} → FirstFaultFrom n B ds m k → FirstFaultFrom n B ds m' l → (m ≡ m') × (k ≡ l)
 one_first (here f) (here g) = let e = fault_some f in let e' = fault_some g in (refl, cc)
 one_first {B = B} (here {d = d} f) (later h g) = let e = fault_some f in let e' = typed_none B d h in absurd cc
 one_first {B = B} (later {d = d} h f) (here g) = let e = fault_some g in let e' = typed_none B d h in absurd cc
 one_first (later h f) (later h' g) = one_first f g
 
 -- what an answer for a fault of a program says
-pub typed_memory : (ds : List Declaration) (f : TypeFault) → IfFault f (FirstFault ds) → AreTyped nothing ds → IsMemory f
+pub typed_memory : (ds : List Declaration) (f : TypeFault) → IfFault f (FirstFault ds) → AreTyped nothing_declared ds → IsMemory f
 typed_memory ds (fault.Fault n k) h a = not_typed a h
 typed_memory ds fault.Memory h a = tt
 

@@ -9,10 +9,10 @@ use Rattle.fc_values.specs.BuiltinTypes.{Takes, takes_add, takes_sub, takes_mul,
 use Rattle.fc_types.specs.declared.faults.TypeKind.{TypeKind}
 use Rattle.fc_types.specs.declared.faults.TypeKind.TheVariants as kind
 use Rattle.fc_types.specs.Faults.{HasNoRule, IsWidePair}
-use Rattle.fc_types.specs.Judging.{Judgement, TypeIs, FaultIs, same_local, each_is, given, all_of, of_alike, of_choice, of_two, operator_type, of_field_and_local, of_field, hood_type, why_not, type_or, judge_hood_or, judge_builtin}
+use Rattle.fc_types.specs.Judging.{JudgedType, TypeFound, FaultFound, same_local, each_is, type_if, type_if_all, alike_type, choice_type, narrow_pair_type, operator_type, field_and_local_type, field_alone_type, hood_type, why_not, type_or, judge_hood_or, judge_builtin}
 use Rattle.fc_types.proofs.Same.{same_local_refl, same_local_is}
 
-given_is : (b : Bool) (s t : LocalType) → given b s ≡ Some t → (b ≡ true) × (s ≡ t)
+given_is : (b : Bool) (s t : LocalType) → type_if b s ≡ Some t → (b ≡ true) × (s ≡ t)
 given_is true s t h = (refl, cc)
 given_is false s t h = absurd cc
 
@@ -24,20 +24,20 @@ each_repeats t (s ∷ ss) h =
     let f = each_repeats t ss p.1 in cc
 
 -- what the arguments are, where the type is given
-all_are : (s : LocalType) (n : ℕ) (r : LocalType) (ts : List LocalType) (t : LocalType) → all_of s n r ts ≡ Some t → (ts ≡ replicate n s) × (r ≡ t)
+all_are : (s : LocalType) (n : ℕ) (r : LocalType) (ts : List LocalType) (t : LocalType) → type_if_all s n r ts ≡ Some t → (ts ≡ replicate n s) × (r ≡ t)
 all_are s n r ts t h =
     let g = given_is (length ts == n && each_is s ts) r t h in
     let p = and_parts (length ts == n) (each_is s ts) g.0 in
     let e : length ts ≡ n = eqb-true (length ts) n p.0 in
     (each_repeats s ts p.1 ∙ ap (λ k. replicate k s) e, g.1)
 
-alike_are : (f : LocalType → LocalType) (ts : List LocalType) (t : LocalType) → of_alike f ts ≡ Some t → (s : LocalType) × (ts ≡ s ∷ s ∷ []) × (f s ≡ t)
+alike_are : (f : LocalType → LocalType) (ts : List LocalType) (t : LocalType) → alike_type f ts ≡ Some t → (s : LocalType) × (ts ≡ s ∷ s ∷ []) × (f s ≡ t)
 alike_are f (s ∷ u ∷ []) t h =
     let g = given_is (same_local s u) (f s) t h in
     let e = same_local_is s u g.0 in (s, (let e' : u ≡ s = sym e in rw e' refl), g.1)
 alike_are f ts t h = absurd cc
 
-choice_are : (ts : List LocalType) (t : LocalType) → of_choice ts ≡ Some t → ts ≡ BoolType ∷ t ∷ t ∷ []
+choice_are : (ts : List LocalType) (t : LocalType) → choice_type ts ≡ Some t → ts ≡ BoolType ∷ t ∷ t ∷ []
 choice_are (c ∷ s ∷ u ∷ []) t h =
     let g = given_is (same_local c BoolType && same_local s u) s t h in
     let p = and_parts (same_local c BoolType) (same_local s u) g.0 in
@@ -103,14 +103,14 @@ takes_operator _ _ _ (takes_fst s t) = refl
 takes_operator _ _ _ (takes_snd s t) = refl
 
 -- the hoods
-fold_are : (ts : List ValueType) (t : LocalType) → of_field_and_local ts ≡ Some t → ts ≡ TypeField t ∷ TypeLocal t ∷ []
+fold_are : (ts : List ValueType) (t : LocalType) → field_and_local_type ts ≡ Some t → ts ≡ TypeField t ∷ TypeLocal t ∷ []
 fold_are (TypeField s ∷ TypeLocal u ∷ []) t h =
     let g = given_is (same_local s u) s t h in
     let e = same_local_is s u g.0 in
     let f = g.1 in cc
 fold_are ts t h = absurd cc
 
-field_is : (r : LocalType) (ts : List ValueType) (t : LocalType) → of_field r ts ≡ Some t → (ts ≡ TypeField r ∷ []) × (r ≡ t)
+field_is : (r : LocalType) (ts : List ValueType) (t : LocalType) → field_alone_type r ts ≡ Some t → (ts ≡ TypeField r ∷ []) × (r ≡ t)
 field_is r (TypeField s ∷ []) t h =
     let g = given_is (same_local s r) r t h in
     let e = same_local_is s r g.0 in (rw e refl, g.1)
@@ -131,56 +131,56 @@ folds_hood _ _ _ folds_sum = (IntType, refl, refl)
 folds_hood _ _ _ folds_any = (BoolType, refl, refl)
 folds_hood _ _ _ folds_all = (BoolType, refl, refl)
 
-type_or_is : (k : TypeKind) (field : Bool) (o : Option LocalType) (t : ValueType) → type_or k field o ≡ TypeIs t → (s : LocalType) × (o ≡ Some s) × (t ≡ lifted field s)
+type_or_is : (k : TypeKind) (field : Bool) (o : Option LocalType) (t : ValueType) → type_or k field o ≡ TypeFound t → (s : LocalType) × (o ≡ Some s) × (t ≡ lifted field s)
 type_or_is k field None t h = absurd cc
 type_or_is k field (Some s) t h = (s, refl, cc)
 
-type_or_fault : (k : TypeKind) (field : Bool) (o : Option LocalType) (l : TypeKind) → type_or k field o ≡ FaultIs l → (o ≡ None) × (l ≡ k)
+type_or_fault : (k : TypeKind) (field : Bool) (o : Option LocalType) (l : TypeKind) → type_or k field o ≡ FaultFound l → (o ≡ None) × (l ≡ k)
 type_or_fault k field None l h = (refl, cc)
 type_or_fault k field (Some s) l h = absurd cc
 
-judged_by : (hood : Bool) (b : Builtin) (ts : List ValueType) (t : ValueType) → judge_hood_or hood b ts ≡ TypeIs t → rule_by hood b ts t
+judged_by : (hood : Bool) (b : Builtin) (ts : List ValueType) (t : ValueType) → judge_hood_or hood b ts ≡ TypeFound t → rule_by hood b ts t
 judged_by true b ts t h = let r = type_or_is kind.Mismatch false (hood_type b ts) t h in rw r.2 (hood_folds b ts r.0 r.1)
 judged_by false b ts t h =
     let r = type_or_is (why_not b ts) (has_field ts) (operator_type b (inners ts)) t h in
     record { local = r.0; takes = operator_takes b (inners ts) r.0 r.1; value = r.2 }
 
-hood_is : (b : Builtin) (ts : List ValueType) (t : ValueType) (s : LocalType) → hood_type b ts ≡ Some s → t ≡ TypeLocal s → judge_hood_or true b ts ≡ TypeIs t
+hood_is : (b : Builtin) (ts : List ValueType) (t : ValueType) (s : LocalType) → hood_type b ts ≡ Some s → t ≡ TypeLocal s → judge_hood_or true b ts ≡ TypeFound t
 hood_is b ts t s e f = rw (e, f) refl
 
-operator_is : (b : Builtin) (ts : List ValueType) (t : ValueType) (s : LocalType) → operator_type b (inners ts) ≡ Some s → t ≡ lifted (has_field ts) s → judge_hood_or false b ts ≡ TypeIs t
+operator_is : (b : Builtin) (ts : List ValueType) (t : ValueType) (s : LocalType) → operator_type b (inners ts) ≡ Some s → t ≡ lifted (has_field ts) s → judge_hood_or false b ts ≡ TypeFound t
 operator_is b ts t s e f = rw (e, f) refl
 
-rule_judged_by : (hood : Bool) (b : Builtin) (ts : List ValueType) (t : ValueType) → rule_by hood b ts t → judge_hood_or hood b ts ≡ TypeIs t
+rule_judged_by : (hood : Bool) (b : Builtin) (ts : List ValueType) (t : ValueType) → rule_by hood b ts t → judge_hood_or hood b ts ≡ TypeFound t
 rule_judged_by true b ts t h = let r = folds_hood b ts t h in hood_is b ts t r.0 r.1 r.2
 rule_judged_by false b ts t h = operator_is b ts t h.local (takes_operator b (inners ts) h.local h.takes) h.value
 
 -- a builtin has the type that is computed, and no other
-pub judged_rule : (b : Builtin) (ts : List ValueType) (t : ValueType) → judge_builtin b ts ≡ TypeIs t → HasRule b ts t
+pub judged_rule : (b : Builtin) (ts : List ValueType) (t : ValueType) → judge_builtin b ts ≡ TypeFound t → HasRule b ts t
 judged_rule b ts t h = judged_by (is_hood b) b ts t h
 
-pub rule_judged : (b : Builtin) (ts : List ValueType) (t : ValueType) → HasRule b ts t → judge_builtin b ts ≡ TypeIs t
+pub rule_judged : (b : Builtin) (ts : List ValueType) (t : ValueType) → HasRule b ts t → judge_builtin b ts ≡ TypeFound t
 rule_judged b ts t h = rule_judged_by (is_hood b) b ts t h
 
-pub no_rule : (b : Builtin) (ts : List ValueType) (k : TypeKind) → judge_builtin b ts ≡ FaultIs k → HasNoRule b ts
+pub no_rule : (b : Builtin) (ts : List ValueType) (k : TypeKind) → judge_builtin b ts ≡ FaultFound k → HasNoRule b ts
 no_rule b ts k h t r = let e = rule_judged b ts t r in cc
 
 -- the kind of its fault
 abbrev pub IsFaultOf : Builtin → List ValueType → TypeKind → Type 0
 IsFaultOf b ts k = ((k ≡ kind.Mismatch) × (IsWidePair b ts → ⊥)) ⊎ ((k ≡ kind.Wide) × IsWidePair b ts)
 
-plain : {P : Type 0} (field : Bool) (o : Option LocalType) (k : TypeKind) → type_or kind.Mismatch field o ≡ FaultIs k → ((k ≡ kind.Mismatch) × (⊥ → ⊥)) ⊎ P
+plain : {P : Type 0} (field : Bool) (o : Option LocalType) (k : TypeKind) → type_or kind.Mismatch field o ≡ FaultFound k → ((k ≡ kind.Mismatch) × (⊥ → ⊥)) ⊎ P
 plain field o k h = inl ((type_or_fault kind.Mismatch field o k h).1, λ x. x)
 
-pub fault_kind : (b : Builtin) (ts : List ValueType) (k : TypeKind) → judge_builtin b ts ≡ FaultIs k → IsFaultOf b ts k
+pub fault_kind : (b : Builtin) (ts : List ValueType) (k : TypeKind) → judge_builtin b ts ≡ FaultFound k → IsFaultOf b ts k
 fault_kind op.Pair [] k h = plain false None k h
 fault_kind op.Pair (s ∷ []) k h = plain (has_field (s ∷ [])) None k h
 fault_kind op.Pair (s ∷ t ∷ u ∷ ts) k h = plain (has_field (s ∷ t ∷ u ∷ ts)) None k h
 fault_kind op.Pair (s ∷ t ∷ []) k h =
-    let f = type_or_fault kind.Wide (has_field (s ∷ t ∷ [])) (of_two (inner s ∷ inner t ∷ [])) k h in
+    let f = type_or_fault kind.Wide (has_field (s ∷ t ∷ [])) (narrow_pair_type (inner s ∷ inner t ∷ [])) k h in
     inr (f.1, wide (nat_le (leaves (inner s) + leaves (inner t)) 8) refl f.0)
   where
-    wide : (b : Bool) → nat_le (leaves (inner s) + leaves (inner t)) 8 ≡ b → given b (PairType (inner s) (inner t)) ≡ None → 8 < leaves (inner s) + leaves (inner t)
+    wide : (b : Bool) → nat_le (leaves (inner s) + leaves (inner t)) 8 ≡ b → type_if b (PairType (inner s) (inner t)) ≡ None → 8 < leaves (inner s) + leaves (inner t)
     wide true e f = absurd cc
     wide false e f = leb-false (leaves (inner s) + leaves (inner t)) 8 e
 fault_kind op.Add ts k h = plain (has_field ts) (operator_type op.Add (inners ts)) k h
@@ -203,17 +203,17 @@ fault_kind op.SumHood ts k h = plain false (hood_type op.SumHood ts) k h
 fault_kind op.AnyHood ts k h = plain false (hood_type op.AnyHood ts) k h
 fault_kind op.AllHood ts k h = plain false (hood_type op.AllHood ts) k h
 
-by_judgement : (b : Builtin) (ts : List ValueType) (l : TypeKind) → HasNoRule b ts → ((k : TypeKind) → IsFaultOf b ts k → k ≡ l) → (j : Judgement) → judge_builtin b ts ≡ j → j ≡ FaultIs l
-by_judgement b ts l none f (TypeIs t) e = absurd (none t (judged_rule b ts t e))
-by_judgement b ts l none f (FaultIs k) e = ap FaultIs (f k (fault_kind b ts k e))
+by_judgement : (b : Builtin) (ts : List ValueType) (l : TypeKind) → HasNoRule b ts → ((k : TypeKind) → IsFaultOf b ts k → k ≡ l) → (j : JudgedType) → judge_builtin b ts ≡ j → j ≡ FaultFound l
+by_judgement b ts l none f (TypeFound t) e = absurd (none t (judged_rule b ts t e))
+by_judgement b ts l none f (FaultFound k) e = ap FaultFound (f k (fault_kind b ts k e))
 
-pub mismatch_judged : (b : Builtin) (ts : List ValueType) → HasNoRule b ts → (IsWidePair b ts → ⊥) → judge_builtin b ts ≡ FaultIs kind.Mismatch
+pub mismatch_judged : (b : Builtin) (ts : List ValueType) → HasNoRule b ts → (IsWidePair b ts → ⊥) → judge_builtin b ts ≡ FaultFound kind.Mismatch
 mismatch_judged b ts none narrow = by_judgement b ts kind.Mismatch none (λ k f. elim f [ inl m ↦ m.0 | inr w ↦ absurd (narrow w.1) ]) (judge_builtin b ts) refl
 
 wide_not : (s t : ValueType) → 8 < leaves (inner s) + leaves (inner t) → (b : Bool) → nat_le (leaves (inner s) + leaves (inner t)) 8 ≡ b → b ≡ false
 wide_not s t w true e = let l = leb-true (leaves (inner s) + leaves (inner t)) 8 e in absurd (omega arith)
 wide_not s t w false e = refl
 
-pub wide_judged : (b : Builtin) (ts : List ValueType) → IsWidePair b ts → judge_builtin b ts ≡ FaultIs kind.Wide
+pub wide_judged : (b : Builtin) (ts : List ValueType) → IsWidePair b ts → judge_builtin b ts ≡ FaultFound kind.Wide
 wide_judged op.Pair (s ∷ t ∷ []) w = let e = wide_not s t w (nat_le (leaves (inner s) + leaves (inner t)) 8) refl in rw e refl
 wide_judged _ _ w = absurd w

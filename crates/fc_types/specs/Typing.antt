@@ -6,10 +6,10 @@ use Rattle.fc_values.specs.declared.types.InputTy.TheVariants as input
 use Rattle.fc_values.specs.Types.{LocalType, IntType, BoolType, ValueType, TypeLocal, TypeField, Input, input_type}
 use Rattle.fc_values.specs.Types.{leaves, IsRange}
 use Rattle.fc_values.specs.BuiltinTypes.{HasRule, inner}
-use Rattle.fc_syntax.specs.Terms.{Term, IntTerm, TruthTerm, VarTerm, UidTerm, NbrLinkTerm, SenseTerm, ApplyTerm}
-use Rattle.fc_syntax.specs.Terms.{NbrTerm, RepTerm, ShareTerm, IfTerm, LetTerm, CallTerm, Terms, NoTerms, MoreTerms}
+use Rattle.fc_syntax.specs.Terms.{SourceTerm, IntTerm, TruthTerm, VarTerm, UidTerm, NbrLinkTerm, SenseTerm, ApplyTerm}
+use Rattle.fc_syntax.specs.Terms.{NbrTerm, RepTerm, ShareTerm, IfTerm, LetTerm, CallTerm, SourceTerms, NoTerms, MoreTerms}
 use Rattle.fc_syntax.specs.Terms.{Parameter, Declaration, LanguageIs, CeilingIs, InputIs, MetricIs, DefIs, MainIs}
-use Rattle.fc_types.specs.Before.{Function, Before, nothing, and_then, input_named, function_named, Scope, bind}
+use Rattle.fc_types.specs.Before.{Function, Earlier, nothing_declared, with_declaration, input_named, function_named, Scope, with_variable}
 use Rattle.fc_types.specs.Before.{type_in}
 
 -- no parameter or binder in scope has the name
@@ -22,37 +22,42 @@ parameter_types f = map (λ (p : Parameter). p.type) f.params
 -- An expression has a type, under what the earlier declarations have declared and in a scope; and expressions in a row
 -- have types.
 mutual
-  pub data HasType : Before → Scope → Term → ValueType → Type 0 where
-    int_type : {B : Before} {scope : Scope} {n : ℕ} → n ≤ B.ceiling → HasType B scope (IntTerm n) (TypeLocal IntType)
-    truth_type : {B : Before} {scope : Scope} {b : Bool} → HasType B scope (TruthTerm b) (TypeLocal BoolType)
-    variable_type : {B : Before} {scope : Scope} {x : List ℕ} {t : ValueType} → type_in x scope ≡ Some t
+  pub data HasType : Earlier → Scope → SourceTerm → ValueType → Type 0 where
+    int_type : {B : Earlier} {scope : Scope} {n : ℕ} → n ≤ B.ceiling → HasType B scope (IntTerm n) (TypeLocal IntType)
+    truth_type : {B : Earlier} {scope : Scope} {b : Bool} → HasType B scope (TruthTerm b) (TypeLocal BoolType)
+    variable_type : {B : Earlier} {scope : Scope} {x : List ℕ} {t : ValueType} → type_in x scope ≡ Some t
         → HasType B scope (VarTerm x) t
-    uid_type : {B : Before} {scope : Scope} → HasType B scope UidTerm (TypeLocal IntType)
-    nbr_link_type : {B : Before} {scope : Scope} → HasType B scope NbrLinkTerm (TypeField IntType)
-    sense_type : {B : Before} {scope : Scope} {x : List ℕ} {i : Input} → input_named x B.inputs ≡ Some i
+    uid_type : {B : Earlier} {scope : Scope} → HasType B scope UidTerm (TypeLocal IntType)
+    nbr_link_type : {B : Earlier} {scope : Scope} → HasType B scope NbrLinkTerm (TypeField IntType)
+    sense_type : {B : Earlier} {scope : Scope} {x : List ℕ} {i : Input} → input_named x B.inputs ≡ Some i
         → HasType B scope (SenseTerm x) (TypeLocal (input_type i.type))
-    builtin_type : {B : Before} {scope : Scope} {b : Builtin} {es : Terms} {ts : List ValueType} {t : ValueType} →
+    builtin_type : {B : Earlier} {scope : Scope} {b : Builtin} {es : SourceTerms} {ts : List ValueType}
+        {t : ValueType} →
         HaveTypes B scope es ts → HasRule b ts t → HasType B scope (ApplyTerm b es) t
-    nbr_type : {B : Before} {scope : Scope} {e : Term} {t : LocalType} → HasType B scope e (TypeLocal t)
+    nbr_type : {B : Earlier} {scope : Scope} {e : SourceTerm} {t : LocalType} → HasType B scope e (TypeLocal t)
         → HasType B scope (NbrTerm e) (TypeField t)
-    rep_type : {B : Before} {scope : Scope} {e : Term} {x : List ℕ} {b : Term} {t : LocalType} →
-        HasType B scope e (TypeLocal t) → HasType B (bind x (TypeLocal t) scope) b (TypeLocal t) → IsFree x scope
+    rep_type : {B : Earlier} {scope : Scope} {e : SourceTerm} {x : List ℕ} {b : SourceTerm} {t : LocalType} →
+        HasType B scope e (TypeLocal t) → HasType B (with_variable x (TypeLocal t) scope) b (TypeLocal t)
+        → IsFree x scope
         → HasType B scope (RepTerm e x b) (TypeLocal t)
-    share_type : {B : Before} {scope : Scope} {e : Term} {x : List ℕ} {b : Term} {t : LocalType} →
-        HasType B scope e (TypeLocal t) → HasType B (bind x (TypeField t) scope) b (TypeLocal t) → IsFree x scope
+    share_type : {B : Earlier} {scope : Scope} {e : SourceTerm} {x : List ℕ} {b : SourceTerm} {t : LocalType} →
+        HasType B scope e (TypeLocal t) → HasType B (with_variable x (TypeField t) scope) b (TypeLocal t)
+        → IsFree x scope
         → HasType B scope (ShareTerm e x b) (TypeLocal t)
-    if_type : {B : Before} {scope : Scope} {c a b : Term} {t : LocalType} →
+    if_type : {B : Earlier} {scope : Scope} {c a b : SourceTerm} {t : LocalType} →
         HasType B scope c (TypeLocal BoolType) → HasType B scope a (TypeLocal t) → HasType B scope b (TypeLocal t)
         → HasType B scope (IfTerm c a b) (TypeLocal t)
-    let_type : {B : Before} {scope : Scope} {x : List ℕ} {a b : Term} {s t : ValueType} →
-        HasType B scope a s → HasType B (bind x s scope) b t → IsFree x scope → HasType B scope (LetTerm x a b) t
-    call_type : {B : Before} {scope : Scope} {f : List ℕ} {es : Terms} {g : Function} →
+    let_type : {B : Earlier} {scope : Scope} {x : List ℕ} {a b : SourceTerm} {s t : ValueType} →
+        HasType B scope a s → HasType B (with_variable x s scope) b t → IsFree x scope
+        → HasType B scope (LetTerm x a b) t
+    call_type : {B : Earlier} {scope : Scope} {f : List ℕ} {es : SourceTerms} {g : Function} →
         function_named f B.functions ≡ Some g → HaveTypes B scope es (parameter_types g)
         → HasType B scope (CallTerm f es) g.result
 
-  pub data HaveTypes : Before → Scope → Terms → List ValueType → Type 0 where
-    no_types : {B : Before} {scope : Scope} → HaveTypes B scope NoTerms []
-    more_types : {B : Before} {scope : Scope} {e : Term} {es : Terms} {t : ValueType} {ts : List ValueType} →
+  pub data HaveTypes : Earlier → Scope → SourceTerms → List ValueType → Type 0 where
+    no_types : {B : Earlier} {scope : Scope} → HaveTypes B scope NoTerms []
+    more_types : {B : Earlier} {scope : Scope} {e : SourceTerm} {es : SourceTerms} {t : ValueType}
+        {ts : List ValueType} →
         HasType B scope e t → HaveTypes B scope es ts → HaveTypes B scope (MoreTerms e es) (t ∷ ts)
 
 -- a type with at most 8 leaves
@@ -69,7 +74,7 @@ AreParameters before [] = Unit {0}
 AreParameters before (p ∷ ps) = IsFree p.name before × IsNarrow p.type × AreParameters (before ++ p ∷ []) ps
 
 -- a declaration is typed
-abbrev pub IsTypedDeclaration : Before → Declaration → Type 0
+abbrev pub IsTypedDeclaration : Earlier → Declaration → Type 0
 IsTypedDeclaration B (LanguageIs n) = Unit {0}
 IsTypedDeclaration B (CeilingIs n) = 1 ≤ n
 IsTypedDeclaration B (InputIs x t) = (input_named x B.inputs ≡ None) × IsInputRange B.ceiling t
@@ -79,10 +84,10 @@ IsTypedDeclaration B (DefIs f params result body) =
 IsTypedDeclaration B (MainIs e) = (t : LocalType) × HasType B [] e (TypeLocal t)
 
 -- each declaration is typed, under those before it
-abbrev pub AreTyped : Before → List Declaration → Type 0
+abbrev pub AreTyped : Earlier → List Declaration → Type 0
 AreTyped B [] = Unit {0}
-AreTyped B (d ∷ ds) = IsTypedDeclaration B d × AreTyped (and_then B d) ds
+AreTyped B (d ∷ ds) = IsTypedDeclaration B d × AreTyped (with_declaration B d) ds
 
 -- a typed program
 abbrev pub IsTyped : List Declaration → Type 0
-IsTyped ds = AreTyped nothing ds
+IsTyped ds = AreTyped nothing_declared ds

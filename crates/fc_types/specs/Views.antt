@@ -12,12 +12,12 @@ use Rattle.fc_types.specs.declared.faults.TypeFault.{TypeFault}
 use Rattle.fc_types.specs.declared.faults.TypeFault.TheVariants as fault
 use Rattle.fc_types.specs.declared.known.Function.{Function as AFunction}
 use Rattle.fc_types.specs.declared.known.Known.{Known}
-use Rattle.fc_types.specs.declared.refusal.Refusal.{Refusal}
-use Rattle.fc_types.specs.declared.refusal.Refusal.TheVariants as refusal
+use Rattle.fc_types.specs.declared.refusal.TypeRefusal.{TypeRefusal}
+use Rattle.fc_types.specs.declared.refusal.TypeRefusal.TheVariants as refusal
 use Rattle.fc_types.specs.declared.scopes.Scope.{Scope as AScope}
 use Rattle.fc_types.specs.declared.scopes.Scope.TheVariants as scope
-use Rattle.fc_types.specs.Before.{Function, Before, Scope, bind}
-use Rattle.fc_types.specs.Judging.{Judgement, TypeIs, FaultIs, Judgements, TypesAre, FaultAmong}
+use Rattle.fc_types.specs.Before.{Function, Earlier, Scope, with_variable}
+use Rattle.fc_types.specs.Judging.{JudgedType, TypeFound, FaultFound, JudgedTypes, TypesAre, FaultAmong}
 
 abbrev pub function_of : List ℕ → AFunction → Function
 function_of name f =
@@ -34,7 +34,7 @@ input_entry e = record { name = e.0.now; type = e.1 }
 abbrev pub function_entry : Bor (List ℕ) × AFunction → Function
 function_entry e = function_of e.0.now e.1
 
-abbrev pub known_of : Known → Before
+abbrev pub known_of : Known → Earlier
 known_of k =
     record {
       ceiling = k.ceiling;
@@ -45,23 +45,23 @@ known_of k =
 
 abbrev pub scope_of : AScope → Scope
 scope_of (scope.Params params) = map parameter_of params.now
-scope_of (scope.Bind' x t p rest) = bind x.now.text.items (type_of t.now) (scope_of rest)
+scope_of (scope.Bind' x t p rest) = with_variable x.now.text.items (type_of t.now) (scope_of rest)
 
 -- a refusal is this one, or want of memory
-abbrev pub IfKind : Refusal → (TypeKind → Type 0) → Type 0
+abbrev pub IfKind : TypeRefusal → (TypeKind → Type 0) → Type 0
 IfKind (refusal.Kind k) P = P k
 IfKind refusal.Memory P = Unit {0}
 
 -- an answer is that of a judgement, or want of memory
-abbrev pub Gives : Result Ty Refusal → Judgement → Type 0
-Gives result j = MatchResult result (λ t. j ≡ TypeIs (type_of t)) (λ r. IfKind r (λ k. j ≡ FaultIs k))
+abbrev pub Gives : Result Ty TypeRefusal → JudgedType → Type 0
+Gives result j = MatchResult result (λ t. j ≡ TypeFound (type_of t)) (λ r. IfKind r (λ k. j ≡ FaultFound k))
 
-abbrev pub GivesAll : Result (Vec Ty Global) Refusal → Judgements → Type 0
+abbrev pub GivesAll : Result (Vec Ty Global) TypeRefusal → JudgedTypes → Type 0
 GivesAll result js =
     MatchResult result (λ ts. js ≡ TypesAre (map type_of ts.items)) (λ r. IfKind r (λ k. js ≡ FaultAmong k))
 
 -- a check is passed where there is no fault
-abbrev pub Passes : {T : Type 0} → Result T Refusal → Option TypeKind → Type 0
+abbrev pub Passes : {T : Type 0} → Result T TypeRefusal → Option TypeKind → Type 0
 Passes result o = MatchResult result (λ _. o ≡ None) (λ r. IfKind r (λ k. o ≡ Some k))
 
 -- what is said of a fault

@@ -4,19 +4,19 @@ ghost use Rattle.std.specs.Prelude.{◌≡◌, false, map};
 ghost use Rattle.fc_values.specs.BuiltinTypes.{has_field as any_field, inners, is_field as field_of, lifted};
 ghost use Rattle.fc_values.specs.Types.{IntType, BoolType, local_type_of, type_of};
 ghost use Rattle.fc_types.specs.declared.faults.TypeKind.TheVariants as kind;
-ghost use Rattle.fc_types.specs.Judging.{all_of as all_type, each_is as all_are, judge_builtin, of_alike, of_choice};
-ghost use Rattle.fc_types.specs.Judging.{of_field, of_field_and_local, of_part, type_or, why_not};
+ghost use Rattle.fc_types.specs.Judging.{type_if_all, each_is as all_are, judge_builtin, alike_type, choice_type};
+ghost use Rattle.fc_types.specs.Judging.{field_alone_type, field_and_local_type, part_type, type_or, why_not};
 ghost use Rattle.fc_types.specs.Views.{Gives};
 
 use crate::faults::TypeKind;
-use crate::refusal::Refusal;
+use crate::refusal::TypeRefusal;
 use crate::types::{copy_local_type, leaves_to_nine, same_local_type};
 use fc_values::{Builtin, LocalTy, Ty, inner};
 use std::alloc::Global;
 
 /// The type of a builtin's value, from the types of its arguments.
 #[inline(never)]
-pub fn builtin_type(alloc: Global, builtin: Builtin, args: &[Ty]) -> Result<Ty, Refusal>
+pub fn builtin_type(alloc: Global, builtin: Builtin, args: &[Ty]) -> Result<Ty, TypeRefusal>
     ensures { Gives result (judge_builtin builtin (map type_of args.now)) }
 {
     match builtin {
@@ -82,93 +82,93 @@ fn each_is(args: &[Ty], ty: &LocalTy) -> bool
 }
 
 // `count` arguments, each of one type.
-fn all_of(args: &[Ty], each: &LocalTy, count: usize, ty: LocalTy) -> Result<Ty, Refusal>
+fn all_of(args: &[Ty], each: &LocalTy, count: usize, ty: LocalTy) -> Result<Ty, TypeRefusal>
     ensures { Gives result (type_or kind.Mismatch (any_field (map type_of args.now))
-        (all_type (local_type_of each.now) count (local_type_of ty) (inners (map type_of args.now)))) }
+        (type_if_all (local_type_of each.now) count (local_type_of ty) (inners (map type_of args.now)))) }
 {
     if args.len() != count {
-        return Err(Refusal::Kind(TypeKind::Mismatch));
+        return Err(TypeRefusal::Kind(TypeKind::Mismatch));
     }
     if each_is(args, each) {
         Ok(lift(args, ty))
     } else {
-        Err(Refusal::Kind(TypeKind::Mismatch))
+        Err(TypeRefusal::Kind(TypeKind::Mismatch))
     }
 }
 
 // Two arguments of one type, which is also the result's.
-fn alike(alloc: Global, args: &[Ty]) -> Result<Ty, Refusal>
+fn alike(alloc: Global, args: &[Ty]) -> Result<Ty, TypeRefusal>
     ensures { Gives result (type_or kind.Mismatch (any_field (map type_of args.now))
-        (of_alike (λ t. t) (inners (map type_of args.now)))) }
+        (alike_type (λ t. t) (inners (map type_of args.now)))) }
 {
     match args {
         [first, second] => {
             if !same_local_type(inner(first), inner(second)) {
-                return Err(Refusal::Kind(TypeKind::Mismatch));
+                return Err(TypeRefusal::Kind(TypeKind::Mismatch));
             }
             let ty = copy_local_type(alloc, inner(first))?;
             Ok(lift(args, ty))
         }
-        _ => Err(Refusal::Kind(TypeKind::Mismatch)),
+        _ => Err(TypeRefusal::Kind(TypeKind::Mismatch)),
     }
 }
 
 // Two arguments of one type give a truth value.
-fn compared(args: &[Ty]) -> Result<Ty, Refusal>
+fn compared(args: &[Ty]) -> Result<Ty, TypeRefusal>
     ensures { Gives result (type_or kind.Mismatch (any_field (map type_of args.now))
-        (of_alike (λ t. BoolType) (inners (map type_of args.now)))) }
+        (alike_type (λ t. BoolType) (inners (map type_of args.now)))) }
 {
     match args {
         [first, second] => {
             if !same_local_type(inner(first), inner(second)) {
-                return Err(Refusal::Kind(TypeKind::Mismatch));
+                return Err(TypeRefusal::Kind(TypeKind::Mismatch));
             }
             Ok(lift(args, LocalTy::Bool))
         }
-        _ => Err(Refusal::Kind(TypeKind::Mismatch)),
+        _ => Err(TypeRefusal::Kind(TypeKind::Mismatch)),
     }
 }
 
 // A truth value and two arguments of one type, which is also the result's.
-fn chosen(alloc: Global, args: &[Ty]) -> Result<Ty, Refusal>
+fn chosen(alloc: Global, args: &[Ty]) -> Result<Ty, TypeRefusal>
     ensures { Gives result (type_or kind.Mismatch (any_field (map type_of args.now))
-        (of_choice (inners (map type_of args.now)))) }
+        (choice_type (inners (map type_of args.now)))) }
 {
     match args {
         [condition, first, second] => {
             if !same_local_type(inner(condition), &LocalTy::Bool) {
-                return Err(Refusal::Kind(TypeKind::Mismatch));
+                return Err(TypeRefusal::Kind(TypeKind::Mismatch));
             }
             if !same_local_type(inner(first), inner(second)) {
-                return Err(Refusal::Kind(TypeKind::Mismatch));
+                return Err(TypeRefusal::Kind(TypeKind::Mismatch));
             }
             let ty = copy_local_type(alloc, inner(first))?;
             Ok(lift(args, ty))
         }
-        _ => Err(Refusal::Kind(TypeKind::Mismatch)),
+        _ => Err(TypeRefusal::Kind(TypeKind::Mismatch)),
     }
 }
 
 // A pair of at most 8 leaves.
-fn pair(alloc: Global, args: &[Ty]) -> Result<Ty, Refusal>
+fn pair(alloc: Global, args: &[Ty]) -> Result<Ty, TypeRefusal>
     ensures { Gives result (judge_builtin Builtin.Pair (map type_of args.now)) }
 {
     match args {
         [first, second] => {
             if leaves_to_nine(inner(first)) + leaves_to_nine(inner(second)) > 8 {
-                return Err(Refusal::Kind(TypeKind::Wide));
+                return Err(TypeRefusal::Kind(TypeKind::Wide));
             }
             let first = Box::new(alloc, copy_local_type(alloc, inner(first))?)?;
             let second = Box::new(alloc, copy_local_type(alloc, inner(second))?)?;
             Ok(lift(args, LocalTy::Pair(first, second)))
         }
-        _ => Err(Refusal::Kind(TypeKind::Mismatch)),
+        _ => Err(TypeRefusal::Kind(TypeKind::Mismatch)),
     }
 }
 
-fn first_part(alloc: Global, args: &[Ty]) -> Result<Ty, Refusal>
+fn first_part(alloc: Global, args: &[Ty]) -> Result<Ty, TypeRefusal>
     ensures { Gives result (type_or kind.Mismatch (any_field (map type_of args.now))
-        (of_part (λ s t. s) (inners (map type_of args.now)))) }
+        (part_type (λ s t. s) (inners (map type_of args.now)))) }
 {
     match args {
         [only] => match inner(only) {
@@ -176,15 +176,15 @@ fn first_part(alloc: Global, args: &[Ty]) -> Result<Ty, Refusal>
                 let ty = copy_local_type(alloc, first)?;
                 Ok(lift(args, ty))
             }
-            _ => Err(Refusal::Kind(TypeKind::Mismatch)),
+            _ => Err(TypeRefusal::Kind(TypeKind::Mismatch)),
         },
-        _ => Err(Refusal::Kind(TypeKind::Mismatch)),
+        _ => Err(TypeRefusal::Kind(TypeKind::Mismatch)),
     }
 }
 
-fn second_part(alloc: Global, args: &[Ty]) -> Result<Ty, Refusal>
+fn second_part(alloc: Global, args: &[Ty]) -> Result<Ty, TypeRefusal>
     ensures { Gives result (type_or kind.Mismatch (any_field (map type_of args.now))
-        (of_part (λ s t. t) (inners (map type_of args.now)))) }
+        (part_type (λ s t. t) (inners (map type_of args.now)))) }
 {
     match args {
         [only] => match inner(only) {
@@ -192,36 +192,36 @@ fn second_part(alloc: Global, args: &[Ty]) -> Result<Ty, Refusal>
                 let ty = copy_local_type(alloc, second)?;
                 Ok(lift(args, ty))
             }
-            _ => Err(Refusal::Kind(TypeKind::Mismatch)),
+            _ => Err(TypeRefusal::Kind(TypeKind::Mismatch)),
         },
-        _ => Err(Refusal::Kind(TypeKind::Mismatch)),
+        _ => Err(TypeRefusal::Kind(TypeKind::Mismatch)),
     }
 }
 
 // A field and a local value of one type, which is also the result's.
-fn field_and_local(alloc: Global, args: &[Ty]) -> Result<Ty, Refusal>
-    ensures { Gives result (type_or kind.Mismatch false (of_field_and_local (map type_of args.now))) }
+fn field_and_local(alloc: Global, args: &[Ty]) -> Result<Ty, TypeRefusal>
+    ensures { Gives result (type_or kind.Mismatch false (field_and_local_type (map type_of args.now))) }
 {
     match args {
         [first, second] => match (first, second) {
             (Ty::Field(first), Ty::Local(second)) if same_local_type(first, second) => {
                 Ok(Ty::Local(copy_local_type(alloc, first)?))
             }
-            _ => Err(Refusal::Kind(TypeKind::Mismatch)),
+            _ => Err(TypeRefusal::Kind(TypeKind::Mismatch)),
         },
-        _ => Err(Refusal::Kind(TypeKind::Mismatch)),
+        _ => Err(TypeRefusal::Kind(TypeKind::Mismatch)),
     }
 }
 
 // A field of a type, which is given.
-fn field(args: &[Ty], ty: LocalTy) -> Result<Ty, Refusal>
-    ensures { Gives result (type_or kind.Mismatch false (of_field (local_type_of ty) (map type_of args.now))) }
+fn field(args: &[Ty], ty: LocalTy) -> Result<Ty, TypeRefusal>
+    ensures { Gives result (type_or kind.Mismatch false (field_alone_type (local_type_of ty) (map type_of args.now))) }
 {
     match args {
         [only] => match only {
             Ty::Field(inner) if same_local_type(inner, &ty) => Ok(Ty::Local(ty)),
-            _ => Err(Refusal::Kind(TypeKind::Mismatch)),
+            _ => Err(TypeRefusal::Kind(TypeKind::Mismatch)),
         },
-        _ => Err(Refusal::Kind(TypeKind::Mismatch)),
+        _ => Err(TypeRefusal::Kind(TypeKind::Mismatch)),
     }
 }

@@ -15,7 +15,7 @@ ghost use Rattle.fc_types.specs.Views.{IfFault, IsFaultOrMemory, IsMemory, Passe
 use crate::expressions::judge;
 use crate::faults::{TypeFault, TypeKind};
 use crate::known::Known;
-use crate::refusal::Refusal;
+use crate::refusal::TypeRefusal;
 use crate::scopes::{Scope, lookup_parameter};
 use crate::typed::Typed;
 use crate::types::{leaves_to_nine, same_types};
@@ -50,25 +50,25 @@ fn check_program(alloc: Global, program: &Program) -> Result<Declared, TypeFault
     for (index, decl) in program.decls.iter().enumerate() {
         match check_declaration(alloc, &known, decl) {
             Ok(()) => known.declare(decl)?,
-            Err(Refusal::Kind(kind)) => {
+            Err(TypeRefusal::Kind(kind)) => {
                 let declaration = index as u32 + 1;
                 return Err(TypeFault::Fault { declaration, kind });
             }
-            Err(Refusal::Memory) => return Err(TypeFault::Memory),
+            Err(TypeRefusal::Memory) => return Err(TypeFault::Memory),
         }
     }
     Ok(known.declared(alloc)?)
 }
 
 // Whether a declaration is typed, under those before it.
-fn check_declaration(alloc: Global, known: &Known<'_>, decl: &Decl) -> Result<(), Refusal>
+fn check_declaration(alloc: Global, known: &Known<'_>, decl: &Decl) -> Result<(), TypeRefusal>
     ensures { Passes result (declaration_fault (known_of known.now) (declaration_of decl.now)) }
 {
     match decl {
         Decl::Language(_) => Ok(()),
         Decl::Ceiling(n) => {
             if *n == 0 {
-                Err(Refusal::Kind(TypeKind::Range))
+                Err(TypeRefusal::Kind(TypeKind::Range))
             } else {
                 Ok(())
             }
@@ -76,7 +76,7 @@ fn check_declaration(alloc: Global, known: &Known<'_>, decl: &Decl) -> Result<()
         Decl::Input(name, ty) => check_input(known, name, *ty),
         Decl::Metric(least, greatest) => {
             if known.metric.is_some() {
-                Err(Refusal::Kind(TypeKind::Twice))
+                Err(TypeRefusal::Kind(TypeKind::Twice))
             } else {
                 check_range(known.ceiling, *least, *greatest)
             }
@@ -88,7 +88,7 @@ fn check_declaration(alloc: Global, known: &Known<'_>, decl: &Decl) -> Result<()
             body,
         } => {
             if known.function(&name.text).is_some() {
-                return Err(Refusal::Kind(TypeKind::Twice));
+                return Err(TypeRefusal::Kind(TypeKind::Twice));
             }
             check_parameters(params)?;
             check_width(result)?;
@@ -98,21 +98,21 @@ fn check_declaration(alloc: Global, known: &Known<'_>, decl: &Decl) -> Result<()
     }
 }
 
-fn check_range(ceiling: u32, least: u32, greatest: u32) -> Result<(), Refusal>
+fn check_range(ceiling: u32, least: u32, greatest: u32) -> Result<(), TypeRefusal>
     ensures { Passes result (range_fault ceiling least greatest) }
 {
     if greatest < least || ceiling < greatest {
-        Err(Refusal::Kind(TypeKind::Range))
+        Err(TypeRefusal::Kind(TypeKind::Range))
     } else {
         Ok(())
     }
 }
 
-fn check_input(known: &Known<'_>, name: &Name, ty: InputTy) -> Result<(), Refusal>
+fn check_input(known: &Known<'_>, name: &Name, ty: InputTy) -> Result<(), TypeRefusal>
     ensures { Passes result (declaration_fault (known_of known.now) (InputIs name.now.text.items ty)) }
 {
     if known.input(&name.text).is_some() {
-        return Err(Refusal::Kind(TypeKind::Twice));
+        return Err(TypeRefusal::Kind(TypeKind::Twice));
     }
     match ty {
         InputTy::Truth => Ok(()),
@@ -120,23 +120,23 @@ fn check_input(known: &Known<'_>, name: &Name, ty: InputTy) -> Result<(), Refusa
     }
 }
 
-fn check_width(ty: &Ty) -> Result<(), Refusal>
+fn check_width(ty: &Ty) -> Result<(), TypeRefusal>
     ensures { Passes result (width_fault (type_of ty.now)) }
 {
     if leaves_to_nine(inner(ty)) > 8 {
-        Err(Refusal::Kind(TypeKind::Wide))
+        Err(TypeRefusal::Kind(TypeKind::Wide))
     } else {
         Ok(())
     }
 }
 
 // Whether parameters have distinct names, and types of at most 8 leaves.
-fn check_parameters(params: &[Param]) -> Result<(), Refusal>
+fn check_parameters(params: &[Param]) -> Result<(), TypeRefusal>
     ensures { Passes result (parameter_fault [] (map parameter_of params.now)) }
 {
     for (index, param) in params.iter().enumerate() {
         if lookup_parameter(&params[..index], &param.name).is_some() {
-            return Err(Refusal::Kind(TypeKind::Twice));
+            return Err(TypeRefusal::Kind(TypeKind::Twice));
         }
         check_width(&param.ty)?;
     }
@@ -149,7 +149,7 @@ fn check_body(
     params: &[Param],
     declared: &Ty,
     body: &Expr,
-) -> Result<(), Refusal>
+) -> Result<(), TypeRefusal>
     ensures { Passes result (body_fault (type_of declared.now)
         (judgement (known_of known.now) (map parameter_of params.now) (term_of body.now))) }
 {
@@ -157,15 +157,15 @@ fn check_body(
     if same_types(&ty, declared) {
         Ok(())
     } else {
-        Err(Refusal::Kind(TypeKind::Result))
+        Err(TypeRefusal::Kind(TypeKind::Result))
     }
 }
 
-fn check_main(alloc: Global, known: &Known<'_>, expr: &Expr) -> Result<(), Refusal>
+fn check_main(alloc: Global, known: &Known<'_>, expr: &Expr) -> Result<(), TypeRefusal>
     ensures { Passes result (main_fault (judgement (known_of known.now) [] (term_of expr.now))) }
 {
     match judge(alloc, known, &Scope::Params(&[]), expr)? {
         Ty::Local(_) => Ok(()),
-        Ty::Field(_) => Err(Refusal::Kind(TypeKind::NotLocal)),
+        Ty::Field(_) => Err(TypeRefusal::Kind(TypeKind::NotLocal)),
     }
 }

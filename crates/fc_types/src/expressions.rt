@@ -15,7 +15,7 @@ ghost use Rattle.fc_types.specs.Views.{Gives, GivesAll, known_of, scope_of};
 use crate::builtins::builtin_type;
 use crate::faults::TypeKind;
 use crate::known::Known;
-use crate::refusal::Refusal;
+use crate::refusal::TypeRefusal;
 use crate::scopes::{Scope, lookup};
 use crate::types::{copy_local_type, copy_type, same_local_type, same_types};
 use fc_syntax::{Expr, Param};
@@ -30,7 +30,7 @@ pub fn judge(
     known: &Known<'_>,
     scope: &Scope<'_>,
     expr: &Expr,
-) -> Result<Ty, Refusal>
+) -> Result<Ty, TypeRefusal>
     ensures { Gives result (judgement (known_of known.now) (scope_of scope.now) (term_of expr.now)) }
 {
     match expr {
@@ -63,7 +63,7 @@ fn judge_one(
     scope: &Scope<'_>,
     builtin: Builtin,
     arg: &Expr,
-) -> Result<Ty, Refusal>
+) -> Result<Ty, TypeRefusal>
     ensures { Gives result (judgement (known_of known.now) (scope_of scope.now)
         (ApplyTerm builtin (MoreTerms (term_of arg.now) NoTerms))) }
 {
@@ -79,7 +79,7 @@ fn judge_apply(
     scope: &Scope<'_>,
     builtin: Builtin,
     args: &[Expr],
-) -> Result<Ty, Refusal>
+) -> Result<Ty, TypeRefusal>
     ensures { Gives result (judgement (known_of known.now) (scope_of scope.now)
         (ApplyTerm builtin (terms (map term_of args.now)))) }
 {
@@ -94,7 +94,7 @@ fn judge_nbr(
     known: &Known<'_>,
     scope: &Scope<'_>,
     inner: &Expr,
-) -> Result<Ty, Refusal>
+) -> Result<Ty, TypeRefusal>
     ensures { Gives result (judgement (known_of known.now) (scope_of scope.now) (NbrTerm (term_of inner.now))) }
 {
     nbr_type(judge(alloc, &*known, &*scope, &*inner)?)
@@ -108,7 +108,7 @@ fn judge_call(
     scope: &Scope<'_>,
     name: &Name,
     args: &[Expr],
-) -> Result<Ty, Refusal>
+) -> Result<Ty, TypeRefusal>
     ensures { Gives result (judgement (known_of known.now) (scope_of scope.now)
         (CallTerm name.now.text.items (terms (map term_of args.now)))) }
 {
@@ -125,7 +125,7 @@ fn judge_rep<'a>(
     first: &Expr,
     name: &'a Name,
     body: &Expr,
-) -> Result<Ty, Refusal>
+) -> Result<Ty, TypeRefusal>
     ensures { Gives result (judgement (known_of known.now) (scope_of scope.now)
         (RepTerm (term_of first.now) name.now.text.items (term_of body.now))) }
 {
@@ -144,7 +144,7 @@ fn judge_share<'a>(
     first: &Expr,
     name: &'a Name,
     body: &Expr,
-) -> Result<Ty, Refusal>
+) -> Result<Ty, TypeRefusal>
     ensures { Gives result (judgement (known_of known.now) (scope_of scope.now)
         (ShareTerm (term_of first.now) name.now.text.items (term_of body.now))) }
 {
@@ -164,7 +164,7 @@ fn judge_branches(
     condition: &Expr,
     then: &Expr,
     other: &Expr,
-) -> Result<Ty, Refusal>
+) -> Result<Ty, TypeRefusal>
     ensures { Gives result (judgement (known_of known.now) (scope_of scope.now)
         (IfTerm (term_of condition.now) (term_of then.now) (term_of other.now))) }
 {
@@ -183,7 +183,7 @@ fn judge_let<'a>(
     name: &'a Name,
     bound: &Expr,
     body: &Expr,
-) -> Result<Ty, Refusal>
+) -> Result<Ty, TypeRefusal>
     ensures { Gives result (judgement (known_of known.now) (scope_of scope.now)
         (LetTerm name.now.text.items (term_of bound.now) (term_of body.now))) }
 {
@@ -201,7 +201,7 @@ fn judge_all(
     known: &Known<'_>,
     scope: &Scope<'_>,
     args: &[Expr],
-) -> Result<Vec<Ty>, Refusal>
+) -> Result<Vec<Ty>, TypeRefusal>
     ensures { GivesAll result (judgements (known_of known.now) (scope_of scope.now) (terms (map term_of args.now))) }
 {
     let mut types = Vec::with_capacity(alloc, args.len())?;
@@ -211,44 +211,44 @@ fn judge_all(
     Ok(types)
 }
 
-fn number_type(n: u32, ceiling: u32) -> Result<Ty, Refusal>
+fn number_type(n: u32, ceiling: u32) -> Result<Ty, TypeRefusal>
     ensures { Gives result (judge_number (nat_le n ceiling)) }
 {
     if n <= ceiling {
         Ok(Ty::Local(LocalTy::Int))
     } else {
-        Err(Refusal::Kind(TypeKind::Literal))
+        Err(TypeRefusal::Kind(TypeKind::Literal))
     }
 }
 
 #[inline(never)]
-fn variable_type(alloc: Global, scope: &Scope<'_>, name: &Name) -> Result<Ty, Refusal>
+fn variable_type(alloc: Global, scope: &Scope<'_>, name: &Name) -> Result<Ty, TypeRefusal>
     ensures { Gives result (judge_variable (type_in name.now.text.items (scope_of scope.now))) }
 {
     match lookup(scope, name) {
         Some(ty) => Ok(copy_type(alloc, ty)?),
-        None => Err(Refusal::Kind(TypeKind::Unknown)),
+        None => Err(TypeRefusal::Kind(TypeKind::Unknown)),
     }
 }
 
 #[inline(never)]
-fn sense_type(known: &Known<'_>, name: &Name) -> Result<Ty, Refusal>
+fn sense_type(known: &Known<'_>, name: &Name) -> Result<Ty, TypeRefusal>
     ensures { Gives result (judge_sense (input_named name.now.text.items (known_of known.now).inputs)) }
 {
     match known.input(&name.text) {
         Some(InputTy::Truth) => Ok(Ty::Local(LocalTy::Bool)),
         Some(InputTy::Whole(_, _)) => Ok(Ty::Local(LocalTy::Int)),
-        None => Err(Refusal::Kind(TypeKind::Unknown)),
+        None => Err(TypeRefusal::Kind(TypeKind::Unknown)),
     }
 }
 
 #[inline(never)]
-fn nbr_type(ty: Ty) -> Result<Ty, Refusal>
+fn nbr_type(ty: Ty) -> Result<Ty, TypeRefusal>
     ensures { Gives result (judge_shared (type_of ty)) }
 {
     match ty {
         Ty::Local(ty) => Ok(Ty::Field(ty)),
-        Ty::Field(_) => Err(Refusal::Kind(TypeKind::NotLocal)),
+        Ty::Field(_) => Err(TypeRefusal::Kind(TypeKind::NotLocal)),
     }
 }
 
@@ -270,34 +270,34 @@ fn is_bound(scope: &Scope<'_>, name: &Name) -> bool
 
 // The type of a `rep` or `share`, from those of its first expression and its body.
 #[inline(never)]
-fn evolving_type(scope: &Scope<'_>, name: &Name, start: Ty, end: Ty) -> Result<Ty, Refusal>
+fn evolving_type(scope: &Scope<'_>, name: &Name, start: Ty, end: Ty) -> Result<Ty, TypeRefusal>
     ensures { Gives result (judge_evolving (type_in name.now.text.items (scope_of scope.now)) (type_of start)
         (type_of end)) }
 {
     match (start, end) {
         (Ty::Local(start), Ty::Local(end)) => {
             if !same_local_type(&start, &end) {
-                return Err(Refusal::Kind(TypeKind::Mismatch));
+                return Err(TypeRefusal::Kind(TypeKind::Mismatch));
             }
             let_type(scope, name, Ty::Local(start))
         }
-        _ => Err(Refusal::Kind(TypeKind::NotLocal)),
+        _ => Err(TypeRefusal::Kind(TypeKind::NotLocal)),
     }
 }
 
 // The type of a binder, whose name may not be bound already.
-fn let_type(scope: &Scope<'_>, name: &Name, ty: Ty) -> Result<Ty, Refusal>
+fn let_type(scope: &Scope<'_>, name: &Name, ty: Ty) -> Result<Ty, TypeRefusal>
     ensures { Gives result (unless_bound (type_in name.now.text.items (scope_of scope.now)) (type_of ty)) }
 {
     if is_bound(scope, name) {
-        Err(Refusal::Kind(TypeKind::Twice))
+        Err(TypeRefusal::Kind(TypeKind::Twice))
     } else {
         Ok(ty)
     }
 }
 
 #[inline(never)]
-fn if_type(condition: Ty, then: Ty, other: Ty) -> Result<Ty, Refusal>
+fn if_type(condition: Ty, then: Ty, other: Ty) -> Result<Ty, TypeRefusal>
     ensures { Gives result (judge_if (type_of condition) (type_of then) (type_of other)) }
 {
     match (condition, then, other) {
@@ -305,26 +305,26 @@ fn if_type(condition: Ty, then: Ty, other: Ty) -> Result<Ty, Refusal>
             if same_local_type(&condition, &LocalTy::Bool) && same_local_type(&then, &other) {
                 Ok(Ty::Local(then))
             } else {
-                Err(Refusal::Kind(TypeKind::Mismatch))
+                Err(TypeRefusal::Kind(TypeKind::Mismatch))
             }
         }
-        _ => Err(Refusal::Kind(TypeKind::NotLocal)),
+        _ => Err(TypeRefusal::Kind(TypeKind::NotLocal)),
     }
 }
 
 #[inline(never)]
-fn call_type(alloc: Global, known: &Known<'_>, name: &Name, types: &[Ty]) -> Result<Ty, Refusal>
+fn call_type(alloc: Global, known: &Known<'_>, name: &Name, types: &[Ty]) -> Result<Ty, TypeRefusal>
     ensures { Gives result (judge_called (function_named name.now.text.items (known_of known.now).functions)
         (map type_of types.now)) }
 {
     let Some(function) = known.function(&name.text) else {
-        return Err(Refusal::Kind(TypeKind::Unknown));
+        return Err(TypeRefusal::Kind(TypeKind::Unknown));
     };
     if types.len() != function.params.len() {
-        return Err(Refusal::Kind(TypeKind::Count));
+        return Err(TypeRefusal::Kind(TypeKind::Count));
     }
     if !are_given(types, function.params) {
-        return Err(Refusal::Kind(TypeKind::Mismatch));
+        return Err(TypeRefusal::Kind(TypeKind::Mismatch));
     }
     Ok(copy_type(alloc, function.result)?)
 }

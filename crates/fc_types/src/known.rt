@@ -4,7 +4,7 @@ ghost use Rattle.std.specs.Prelude.{◌≡◌, IfOk, None, map};
 ghost use Rattle.std.specs.Option.{option_map};
 ghost use Rattle.fc_syntax.specs.Terms.{declaration_of};
 ghost use Rattle.fc_values.specs.Types.{declarations_of, type_of};
-ghost use Rattle.fc_types.specs.Before.{and_then, declared_before, function_named, input_named, nothing, type_in};
+ghost use Rattle.fc_types.specs.Before.{with_declaration, declared_before, function_named, input_named, nothing_declared, type_in};
 ghost use Rattle.fc_types.specs.Typing.{IsTypedDeclaration};
 ghost use Rattle.fc_types.specs.Views.{function_of, known_of};
 
@@ -33,7 +33,7 @@ pub struct Known<'a> {
 impl<'a> Known<'a> {
     /// Before the first declaration.
     pub fn new(alloc: Global) -> Self
-        ensures { known_of result ≡ nothing }
+        ensures { known_of result ≡ nothing_declared }
     {
         Known {
             ceiling: 0,
@@ -61,7 +61,8 @@ impl<'a> Known<'a> {
     /// Adds a declaration.
     pub fn declare(&mut self, decl: &'a Decl) -> Result<(), Memory>
         requires { IsTypedDeclaration (known_of self.old) (declaration_of decl.now) }
-        ensures { IfOk result (λ _. known_of self.new ≡ and_then (known_of self.old) (declaration_of decl.now)) }
+        ensures { IfOk result (λ _.
+            known_of self.new ≡ with_declaration (known_of self.old) (declaration_of decl.now)) }
     {
         match decl {
             Decl::Language(_) => {}

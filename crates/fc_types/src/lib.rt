@@ -18,6 +18,6 @@ pub use expressions::shared_type;
 pub use faults::{TypeFault, TypeKind};
 pub use known::{Function, Known};
 pub use laws::{one_first_fault, one_type, typed_or_at_fault};
-pub use refusal::Refusal;
+pub use refusal::TypeRefusal;
 pub use typed::Typed;
 pub use types::{copy_local_type, copy_type, same_local_type, same_types};

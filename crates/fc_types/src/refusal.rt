@@ -1,7 +1,7 @@
 //! Why an expression or a declaration has no type.
 
 ghost use Rattle.std.specs.Prelude.{◌≡◌};
-ghost use Rattle.fc_types.specs.declared.refusal.Refusal.TheVariants as refusal;
+ghost use Rattle.fc_types.specs.declared.refusal.TypeRefusal.TheVariants as refusal;
 
 use crate::faults::TypeKind;
 use fc_values::Memory;
@@ -9,31 +9,31 @@ use std::alloc::{AllocError, AllocFailed};
 
 /// The kind of a first fault, or want of memory.
 #[derive(Clone, Copy)]
-pub enum Refusal {
+pub enum TypeRefusal {
     Kind(TypeKind),
     Memory,
 }
 
-impl From<Memory> for Refusal {
+impl From<Memory> for TypeRefusal {
     ghost from_gives = { λ _ r. r ≡ refusal.Memory };
 
     fn from(_: Memory) -> Self {
-        Refusal::Memory
+        TypeRefusal::Memory
     }
 }
 
-impl From<AllocError> for Refusal {
+impl From<AllocError> for TypeRefusal {
     ghost from_gives = { λ _ r. r ≡ refusal.Memory };
 
     fn from(_: AllocError) -> Self {
-        Refusal::Memory
+        TypeRefusal::Memory
     }
 }
 
-impl<T: Drop> From<AllocFailed<T>> for Refusal {
+impl<T: Drop> From<AllocFailed<T>> for TypeRefusal {
     ghost from_gives = { λ _ r. r ≡ refusal.Memory };
 
     fn from(_: AllocFailed<T>) -> Self {
-        Refusal::Memory
+        TypeRefusal::Memory
     }
 }

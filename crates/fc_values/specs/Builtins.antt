@@ -156,7 +156,8 @@ abbrev pub field_over : (ℕ → Option LocalValue) → List ℕ → Option Entr
 field_over f [] = Some []
 field_over f (d ∷ ds) = put_before (option_map (λ v. (d, v)) (f d)) (field_over f ds)
 
--- an operator at each device of the fields among its arguments, which are over one set of devices
+-- An operator at each device of the fields among its arguments, which are over one set of devices. Without a field it
+-- is applied once: the 0 is no device, since a local value stands for itself everywhere.
 abbrev pub pointwise_over : (List LocalValue → Option LocalValue) → Option (List ℕ) → List AnyValue → Option AnyValue
 pointwise_over f None xs = option_map ValueLocal (option_and_then f (arguments_at 0 xs))
 pointwise_over f (Some ds) xs = if rises ds && are_over ds xs

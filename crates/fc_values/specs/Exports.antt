@@ -8,6 +8,7 @@ use Rattle.fc_values.specs.Values.{LocalValue, IntValue, local_of}
 abbrev pub SlotValue : Type 0
 SlotValue = Bool × LocalValue
 
+-- the slots and the export that those of the code stand for
 abbrev pub slot_of : Slot → SlotValue
 slot_of s = (s.kept, local_of s.value)
 

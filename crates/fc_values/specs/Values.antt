@@ -13,6 +13,7 @@ pub data LocalValue : Type 0 where
   BoolValue : Bool → LocalValue
   PairValue : LocalValue → LocalValue → LocalValue
 
+-- the value that one of the code stands for
 abbrev pub local_of : Local → LocalValue
 local_of (loc.Int n) = IntValue n
 local_of (loc.Bool b) = BoolValue b

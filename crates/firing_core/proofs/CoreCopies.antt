@@ -12,7 +12,7 @@ use Rattle.value_trees.specs.Copies.{WhereSome}
 use Rattle.value_trees.specs.Snaps.{tree_of, snap_copy, IsSnap}
 use Rattle.topology.specs.Networks.{Network, numbers}
 use Rattle.firing_core.specs.Cores.{Core}
-use Rattle.firing_core.specs.CoreViews.{CoreValue, core_of, program_of, slot_at, AllExports, AllFlights, AllSnaps, FlightOf, IsCore}
+use Rattle.firing_core.specs.CoreViews.{CoreValue, core_of, program_of, device_slot, AllExports, AllFlights, AllSnaps, FlightOf, IsCore}
 use Rattle.firing_core.proofs.SnapCopies.{own_same, own_export}
 
 snaps_more : (U : Unfolding) (old : List (Option Snap)) (y : Option Snap) → AllSnaps U old → WhereSome (IsSnap U) y → AllSnaps U (old ++ y ∷ [])
@@ -100,8 +100,8 @@ module _ (v : CoreValue) (k : IsCore v) (xs : List (Option Export)) (ys : List (
   same : core_of (record { program = v.program; net = v.net; exports = xs; flying = ys }) ≡ core_of v
   same =
       let a = trees_again (program_of v) v.exports xs e in
-      ap (λ ts. let c : Core = record { net = v.net; exports = slot_at (numbers v.net.devices) ts; flying = slot_at (numbers v.net.devices) (map (option_map (snap_copy (program_of v))) ys) } in c) a
-      ∙ ap (λ ts. let c : Core = record { net = v.net; exports = slot_at (numbers v.net.devices) (map (option_map (tree_of (program_of v))) v.exports); flying = slot_at (numbers v.net.devices) ts } in c) f
+      ap (λ ts. let c : Core = record { net = v.net; exports = device_slot (numbers v.net.devices) ts; flying = device_slot (numbers v.net.devices) (map (option_map (snap_copy (program_of v))) ys) } in c) a
+      ∙ ap (λ ts. let c : Core = record { net = v.net; exports = device_slot (numbers v.net.devices) (map (option_map (tree_of (program_of v))) v.exports); flying = device_slot (numbers v.net.devices) ts } in c) f
 
   pub copied_kept : (r : Program) (m : Network) → r ≡ v.program → m ≡ v.net → IsCore (record { program = r; net = m; exports = xs; flying = ys })
   copied_kept r m p q = subst (λ (s : Program). IsCore (record { program = s; net = m; exports = xs; flying = ys })) (sym p) (subst (λ (o : Network). IsCore (record { program = v.program; net = o; exports = xs; flying = ys })) (sym q) kept)

@@ -29,7 +29,7 @@ use Rattle.topology.proofs.Lemmas.{drop_length, put_numbers}
 use Rattle.topology.proofs.Lemmas.{map_remove, remove_device}
 use Rattle.firing_core.specs.Entries.{EditValue, LinkEdit, UnlinkEdit, SetEdit, PokeEdit, JoinEdit, LeaveEdit}
 use Rattle.firing_core.specs.Cores.{Map, put, Core, on_net, Edits, edit_fault, edited}
-use Rattle.firing_core.specs.CoreViews.{CoreValue, core_of, program_of, slot_at, AllExports, AllFlights, IsCore}
+use Rattle.firing_core.specs.CoreViews.{CoreValue, core_of, program_of, device_slot, AllExports, AllFlights, IsCore}
 use Rattle.firing_core.proofs.Slots.{Distinct, rises_distinct}
 use Rattle.firing_core.proofs.Views.{many_flights, many_numbers}
 use Rattle.firing_core.proofs.CoreSteps.{slot_write, exports_set}
@@ -42,7 +42,7 @@ with_net v n = record { program = v.program; net = n; exports = v.exports; flyin
 module _ (v : CoreValue) (k : IsCore v) (n : Network) (same : numbers n.devices ≡ numbers v.net.devices) where
   pub net_core : core_of (with_net v n) ≡ on_net (core_of v) n
   net_core =
-      ap (λ is. let c : Core = record { net = n; exports = slot_at is (map (option_map (tree_of (program_of v))) v.exports); flying = slot_at is (map (option_map (snap_copy (program_of v))) v.flying) } in c) same
+      ap (λ is. let c : Core = record { net = n; exports = device_slot is (map (option_map (tree_of (program_of v))) v.exports); flying = device_slot is (map (option_map (snap_copy (program_of v))) v.flying) } in c) same
 
   pub net_kept : IsNetwork n → n.declared ≡ v.net.declared → IsCore (with_net v n)
   net_kept net declared = record {
@@ -55,7 +55,7 @@ module _ (v : CoreValue) (k : IsCore v) (n : Network) (same : numbers n.devices 
 
 -- ---- a slot more
 
-slot_insert_at : {X : Type 0} (is : List ℕ) (xs : List (Option X)) (p d e : ℕ) → is_in d is ≡ false → length is ≡ length xs → slot_at (insert is p d) (insert xs p None) e ≡ put (slot_at is xs) d None e
+slot_insert_at : {X : Type 0} (is : List ℕ) (xs : List (Option X)) (p d e : ℕ) → is_in d is ≡ false → length is ≡ length xs → device_slot (insert is p d) (insert xs p None) e ≡ put (device_slot is xs) d None e
 slot_insert_at {X} [] [] zero d e n l = refl
 slot_insert_at {X} [] [] (suc p) d e n l = refl
 slot_insert_at [] (x ∷ xs) p d e n l = absurd (omega arith)
@@ -71,13 +71,13 @@ slot_insert_at {X} (i ∷ is) (x ∷ xs) (suc p) d e n l = by_tests (nat_eq e i)
     first true q = absurd (cc)
     first false q = refl
 
-    by_tests : (q r : Bool) → nat_eq e i ≡ q → nat_eq e d ≡ r → slot_at (insert is p d) (insert xs p None) e ≡ (if nat_eq e d then None else slot_at is xs e)
-        → (if q then x else slot_at (insert is p d) (insert xs p None) e) ≡ (if nat_eq e d then None else (if q then x else slot_at is xs e))
+    by_tests : (q r : Bool) → nat_eq e i ≡ q → nat_eq e d ≡ r → device_slot (insert is p d) (insert xs p None) e ≡ (if nat_eq e d then None else device_slot is xs e)
+        → (if q then x else device_slot (insert is p d) (insert xs p None) e) ≡ (if nat_eq e d then None else (if q then x else device_slot is xs e))
     by_tests true true s t ih = let a = eqb-true e i s in let b = eqb-true e d t in absurd (eqb-false d i (first (nat_eq d i) n) (sym b ∙ a))
     by_tests true false s t ih = rw t refl
     by_tests false r s t ih = ih
 
-pub slot_insert : {X : Type 0} (is : List ℕ) (xs : List (Option X)) (p d : ℕ) → is_in d is ≡ false → length is ≡ length xs → slot_at (insert is p d) (insert xs p None) ≡ put (slot_at is xs) d None
+pub slot_insert : {X : Type 0} (is : List ℕ) (xs : List (Option X)) (p d : ℕ) → is_in d is ≡ false → length is ≡ length xs → device_slot (insert is p d) (insert xs p None) ≡ put (device_slot is xs) d None
 slot_insert is xs p d n l = fun_ext (λ e. slot_insert_at is xs p d e n l)
 
 insert_exports : (U : Unfolding) (xs : List (Option Export)) (p : ℕ) → AllExports U xs → AllExports U (insert xs p None)
@@ -117,15 +117,15 @@ module _ (v : CoreValue) (k : IsCore v) (x : NetDevice) (p : ℕ) (place : p ≡
   flying_long = sym (many_flights (program_of v) (numbers v.net.devices) v.flying k.flying)
 
   slots_more : {X Y : Type 0} (f : X → Y) (xs : List (Option X)) → length (numbers v.net.devices) ≡ length xs
-      → slot_at (numbers (insert_device x v.net.devices)) (map (option_map f) (insert xs p None)) ≡ put (slot_at (numbers v.net.devices) (map (option_map f) xs)) x.id None
+      → device_slot (numbers (insert_device x v.net.devices)) (map (option_map f) (insert xs p None)) ≡ put (device_slot (numbers v.net.devices) (map (option_map f) xs)) x.id None
   slots_more f xs l =
-      ap (λ is. slot_at is (map (option_map f) (insert xs p None))) joined_numbers
-      ∙ ap (slot_at (insert (numbers v.net.devices) p x.id)) (map_insert (option_map f) xs p None)
+      ap (λ is. device_slot is (map (option_map f) (insert xs p None))) joined_numbers
+      ∙ ap (device_slot (insert (numbers v.net.devices) p x.id)) (map_insert (option_map f) xs p None)
       ∙ slot_insert (numbers v.net.devices) (map (option_map f) xs) p x.id new (omega (arith, length-map xs (option_map f)))
 
   pub joined_core : core_of with_device ≡ edited (program_of v) (core_of v) (JoinEdit x)
   joined_core =
-      ap (λ f. let c : Core = record { net = joined v.net x; exports = f; flying = slot_at (numbers (insert_device x v.net.devices)) (map (option_map (snap_copy (program_of v))) (insert v.flying p None)) } in c)
+      ap (λ f. let c : Core = record { net = joined v.net x; exports = f; flying = device_slot (numbers (insert_device x v.net.devices)) (map (option_map (snap_copy (program_of v))) (insert v.flying p None)) } in c)
       (slots_more (tree_of (program_of v)) v.exports exports_long)
       ∙ ap (λ f. let c : Core = record { net = joined v.net x; exports = put (core_of v).exports x.id None; flying = f } in c)
       (slots_more (snap_copy (program_of v)) v.flying flying_long)
@@ -141,28 +141,28 @@ module _ (v : CoreValue) (k : IsCore v) (x : NetDevice) (p : ℕ) (place : p ≡
 
 -- ---- a slot less
 
-slot_absent : {X : Type 0} (is : List ℕ) (xs : List (Option X)) (d : ℕ) → ((m : ℕ) → m < length is → d ≡ get_or is m 0 → ⊥) → slot_at is xs d ≡ None
+slot_absent : {X : Type 0} (is : List ℕ) (xs : List (Option X)) (d : ℕ) → ((m : ℕ) → m < length is → d ≡ get_or is m 0 → ⊥) → device_slot is xs d ≡ None
 slot_absent [] xs d u = refl
 slot_absent (i ∷ is) [] d u = refl
 slot_absent (i ∷ is) (x ∷ xs) d u = rw (ne_eqb d i (u 0 (omega arith))) (slot_absent is xs d (λ m l. u (suc m) (omega arith)))
 
-slot_remove_at : {X : Type 0} (is : List ℕ) (xs : List (Option X)) (p d e : ℕ) → Distinct is → p < length is → get_or is p 0 ≡ d → length is ≡ length xs → slot_at (remove is p) (remove xs p) e ≡ put (slot_at is xs) d None e
+slot_remove_at : {X : Type 0} (is : List ℕ) (xs : List (Option X)) (p d e : ℕ) → Distinct is → p < length is → get_or is p 0 ≡ d → length is ≡ length xs → device_slot (remove is p) (remove xs p) e ≡ put (device_slot is xs) d None e
 slot_remove_at [] xs p d e n h q l = absurd (omega arith)
 slot_remove_at (i ∷ is) [] p d e n h q l = absurd (omega arith)
 slot_remove_at {X} (i ∷ is) (x ∷ xs) zero d e n h q l = by_test (nat_eq e d) refl
   where
-    by_test : (b : Bool) → nat_eq e d ≡ b → slot_at is xs e ≡ (if b then None else (if nat_eq e i then x else slot_at is xs e))
+    by_test : (b : Bool) → nat_eq e d ≡ b → device_slot is xs e ≡ (if b then None else (if nat_eq e i then x else device_slot is xs e))
     by_test true t = let a = eqb-true e d t in slot_absent is xs e (λ m u r. n.0 m u (sym r ∙ a ∙ sym q))
     by_test false t = rw (ne_eqb e i (λ r. eqb-false e d t (r ∙ q))) refl
 slot_remove_at {X} (i ∷ is) (x ∷ xs) (suc p) d e n h q l = by_tests (nat_eq e i) (nat_eq e d) refl refl (slot_remove_at is xs p d e n.1 (omega arith) q (omega arith))
   where
-    by_tests : (a b : Bool) → nat_eq e i ≡ a → nat_eq e d ≡ b → slot_at (remove is p) (remove xs p) e ≡ (if nat_eq e d then None else slot_at is xs e)
-        → (if a then x else slot_at (remove is p) (remove xs p) e) ≡ (if nat_eq e d then None else (if a then x else slot_at is xs e))
+    by_tests : (a b : Bool) → nat_eq e i ≡ a → nat_eq e d ≡ b → device_slot (remove is p) (remove xs p) e ≡ (if nat_eq e d then None else device_slot is xs e)
+        → (if a then x else device_slot (remove is p) (remove xs p) e) ≡ (if nat_eq e d then None else (if a then x else device_slot is xs e))
     by_tests true true s t ih = let y = eqb-true e i s in let z = eqb-true e d t in absurd (n.0 p (omega arith) (q ∙ sym z ∙ y))
     by_tests true false s t ih = rw t refl
     by_tests false b s t ih = ih
 
-pub slot_remove : {X : Type 0} (is : List ℕ) (xs : List (Option X)) (p d : ℕ) → Distinct is → p < length is → get_or is p 0 ≡ d → length is ≡ length xs → slot_at (remove is p) (remove xs p) ≡ put (slot_at is xs) d None
+pub slot_remove : {X : Type 0} (is : List ℕ) (xs : List (Option X)) (p d : ℕ) → Distinct is → p < length is → get_or is p 0 ≡ d → length is ≡ length xs → device_slot (remove is p) (remove xs p) ≡ put (device_slot is xs) d None
 slot_remove is xs p d n h q l = fun_ext (λ e. slot_remove_at is xs p d e n h q l)
 
 -- where the slot is empty already
@@ -206,10 +206,10 @@ module _ (v : CoreValue) (k : IsCore v) (p d : ℕ) (h : p < length v.net.device
   left_numbers = ap numbers (sym (remove_device d p v.net.devices k.net.rising within q)) ∙ map_remove (λ (n : NetDevice). n.id) v.net.devices p
 
   slots_less : {X Y : Type 0} (f : X → Y) (xs : List (Option X)) → length (numbers v.net.devices) ≡ length xs
-      → slot_at (numbers (drop_device d v.net.devices)) (map (option_map f) (remove xs p)) ≡ put (slot_at (numbers v.net.devices) (map (option_map f) xs)) d None
+      → device_slot (numbers (drop_device d v.net.devices)) (map (option_map f) (remove xs p)) ≡ put (device_slot (numbers v.net.devices) (map (option_map f) xs)) d None
   slots_less f xs l =
-      ap (λ is. slot_at is (map (option_map f) (remove xs p))) left_numbers
-      ∙ ap (slot_at (remove (numbers v.net.devices) p)) (map_remove (option_map f) xs p)
+      ap (λ is. device_slot is (map (option_map f) (remove xs p))) left_numbers
+      ∙ ap (device_slot (remove (numbers v.net.devices) p)) (map_remove (option_map f) xs p)
       ∙ slot_remove (numbers v.net.devices) (map (option_map f) xs) p d apart within q (omega (arith, length-map xs (option_map f)))
 
   many_exports : length (numbers v.net.devices) ≡ length v.exports
@@ -217,7 +217,7 @@ module _ (v : CoreValue) (k : IsCore v) (p d : ℕ) (h : p < length v.net.device
 
   pub left_core : (core_of v).flying d ≡ None → core_of without_device ≡ edited (program_of v) (core_of v) (LeaveEdit d)
   left_core rests =
-      ap (λ f. let c : Core = record { net = left v.net d; exports = f; flying = slot_at (numbers (drop_device d v.net.devices)) (map (option_map (snap_copy (program_of v))) (remove v.flying p)) } in c)
+      ap (λ f. let c : Core = record { net = left v.net d; exports = f; flying = device_slot (numbers (drop_device d v.net.devices)) (map (option_map (snap_copy (program_of v))) (remove v.flying p)) } in c)
       (slots_less (tree_of (program_of v)) v.exports many_exports)
       ∙ ap (λ f. let c : Core = record { net = left v.net d; exports = put (core_of v).exports d None; flying = f } in c)
       (slots_less (snap_copy (program_of v)) v.flying (sym (many_flights (program_of v) (numbers v.net.devices) v.flying k.flying)) ∙ put_none (core_of v).flying d rests)

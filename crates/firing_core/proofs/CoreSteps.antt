@@ -16,29 +16,29 @@ use Rattle.firing_core.specs.declared.entries.StepFault.TheVariants as fault
 use Rattle.topology.specs.Networks.{Network, numbers, lives}
 use Rattle.firing_core.specs.Cores.{put, Core, copy_of, begun, ended, Ends}
 use Rattle.firing_core.specs.Replays.{fault_of}
-use Rattle.firing_core.specs.CoreViews.{CoreValue, core_of, program_of, slot_at, AllExports, AllFlights, FlightOf, IsCore}
+use Rattle.firing_core.specs.CoreViews.{CoreValue, core_of, program_of, device_slot, AllExports, AllFlights, FlightOf, IsCore}
 use Rattle.firing_core.proofs.Slots.{Distinct, rises_distinct, slot_set}
 use Rattle.firing_core.proofs.Views.{many_flights, many_numbers}
 
 -- reading the slot of the device at a place
 pub slot_read : {X Y : Type 0} (f : X → Y) (is : List ℕ) (xs : List (Option X)) (p d : ℕ) (x : Option X) → Distinct is → p < length is → get_or is p 0 ≡ d → length xs ≡ length is → x ≡ get_or xs p x
-    → slot_at is (map (option_map f) xs) d ≡ option_map f x
+    → device_slot is (map (option_map f) xs) d ≡ option_map f x
 slot_read f [] xs p d x n h e l q = absurd (omega arith)
 slot_read f (i ∷ is) [] p d x n h e l q = absurd (omega arith)
 slot_read f (i ∷ is) (y ∷ ys) zero d x n h e l q = let t = eq-eqb d i (sym e) in rw t (ap (option_map f) (sym q))
 slot_read {X} {Y} f (i ∷ is) (y ∷ ys) (suc p) d x n h e l q = by_test (nat_eq d i) refl (slot_read f is ys p d x n.1 (omega arith) e (omega arith) q)
   where
-    by_test : (b : Bool) → nat_eq d i ≡ b → slot_at is (map (option_map f) ys) d ≡ option_map f x → (if b then option_map f y else slot_at is (map (option_map f) ys) d) ≡ option_map f x
+    by_test : (b : Bool) → nat_eq d i ≡ b → device_slot is (map (option_map f) ys) d ≡ option_map f x → (if b then option_map f y else device_slot is (map (option_map f) ys) d) ≡ option_map f x
     by_test true t ih = let z = eqb-true d i t in absurd (n.0 p (omega arith) (e ∙ z))
     by_test false t ih = ih
 
 -- writing it
 pub slot_write : {X Y : Type 0} (f : X → Y) (is : List ℕ) (xs : List (Option X)) (p d : ℕ) (v : Option X) → Distinct is → p < length is → get_or is p 0 ≡ d → length xs ≡ length is
-    → slot_at is (map (option_map f) (slice_set xs p v)) ≡ put (slot_at is (map (option_map f) xs)) d (option_map f v)
+    → device_slot is (map (option_map f) (slice_set xs p v)) ≡ put (device_slot is (map (option_map f) xs)) d (option_map f v)
 slot_write f is xs p d v n h e l =
-    ap (slot_at is) (map-set (option_map f) xs p v)
+    ap (device_slot is) (map-set (option_map f) xs p v)
     ∙ slot_set is (map (option_map f) xs) p (option_map f v) n h (omega (arith, length-map xs (option_map f)))
-    ∙ ap (λ k. put (slot_at is (map (option_map f) xs)) k (option_map f v)) e
+    ∙ ap (λ k. put (device_slot is (map (option_map f) xs)) k (option_map f v)) e
 
 pub exports_set : (U : Unfolding) (xs : List (Option Export)) (p : ℕ) (v : Option Export) → AllExports U xs → WhereSome (IsExportOf U) v → AllExports U (slice_set xs p v)
 exports_set U [] p v a w = tt
@@ -155,7 +155,7 @@ module _ (v : CoreValue) (k : IsCore v) (p d : ℕ) (h : p < length v.net.device
   ended_core x =
       let w = slot_write (snap_copy (program_of v)) (numbers v.net.devices) v.flying p d None apart in_numbers e flights in
       let u = slot_write (tree_of (program_of v)) (numbers v.net.devices) v.exports p d (Some x) apart in_numbers e exports in
-      ap (λ f. let c : Core = record { net = v.net; exports = f; flying = slot_at (numbers v.net.devices) (map (option_map (snap_copy (program_of v))) (slice_set v.flying p None)) } in c) u
+      ap (λ f. let c : Core = record { net = v.net; exports = f; flying = device_slot (numbers v.net.devices) (map (option_map (snap_copy (program_of v))) (slice_set v.flying p None)) } in c) u
       ∙ ap (λ f. let c : Core = record { net = v.net; exports = put (core_of v).exports d (Some (tree_of (program_of v) x)); flying = f } in c) w
 
   -- the table after an end

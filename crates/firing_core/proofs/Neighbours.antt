@@ -6,7 +6,7 @@ use Rattle.fc_nodes.specs.Program.{Unfolding}
 use Rattle.fc_nodes.specs.Flat.{IsWellTyped}
 use Rattle.value_trees.specs.Copies.{WhereSome, AllNearFit, near_devices, FitsCopy}
 use Rattle.topology.specs.Networks.{Network, numbers, Lives, near, LinksFit, DevicesFit, IsNetwork}
-use Rattle.topology.specs.Nearby.{near_numbers}
+use Rattle.topology.specs.Nearby.{neighbour_numbers}
 use Rattle.topology.proofs.Lemmas.{AllNear, AllAbove, near_rises, near_fits, inputs_fit}
 use Rattle.firing_core.specs.Cores.{Map, near_with, near_copies, copy_of}
 use Rattle.fc_values.proofs.Rising.{rises_tail}
@@ -31,7 +31,7 @@ module _ (U : Unfolding) (ds : List ℕ) (d : ℕ) (table : Map TreeExport) (typ
           let h = q ∙ ap (λ o. near_with n o (near_copies table ns)) p in
           rw h (a.0, rw h at r)
 
-  all_above : (n : ℕ × ℕ) (ns : List (ℕ × ℕ)) → Rises (n.0 ∷ near_numbers ns) → AllAbove n.0 ns
+  all_above : (n : ℕ × ℕ) (ns : List (ℕ × ℕ)) → Rises (n.0 ∷ neighbour_numbers ns) → AllAbove n.0 ns
   all_above n [] r = tt
   all_above n (m ∷ ms) r = (r.0, weaker ms (all_above m ms r.1))
     where
@@ -39,9 +39,9 @@ module _ (U : Unfolding) (ds : List ℕ) (d : ℕ) (table : Map TreeExport) (typ
       weaker [] a = tt
       weaker (k ∷ ks) a = let l = r.0 in let h = a.0 in (omega arith, weaker ks a.1)
 
-  pub copies_rise : (ns : List (ℕ × ℕ)) → Rises (near_numbers ns) → Rises (near_devices (near_copies table ns))
+  pub copies_rise : (ns : List (ℕ × ℕ)) → Rises (neighbour_numbers ns) → Rises (near_devices (near_copies table ns))
   copies_rise [] r = tt
-  copies_rise (n ∷ ns) r = by_export (table n.0) (copies_rise ns (rises_tail n.0 (near_numbers ns) r))
+  copies_rise (n ∷ ns) r = by_export (table n.0) (copies_rise ns (rises_tail n.0 (neighbour_numbers ns) r))
     where
       by_export : (o : Option TreeExport) → Rises (near_devices (near_copies table ns)) → Rises (near_devices (near_with n o (near_copies table ns)))
       by_export None ih = ih

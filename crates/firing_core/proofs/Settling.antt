@@ -7,7 +7,7 @@ use Rattle.std.proofs.Math.Seq.{take-suc}
 use Rattle.fc_values.specs.Trees.{Copy}
 use Rattle.fc_nodes.specs.Program.{Program, Unfolding, unfolding_of}
 use Rattle.topology.specs.declared.types.Device.{Device}
-use Rattle.topology.specs.Networks.{Network, NetDevice, device_of, numbers, IsNetwork}
+use Rattle.topology.specs.Networks.{Network, NetDevice, net_device_of, numbers, IsNetwork}
 use Rattle.fc_values.specs.Fields.{is_in}
 use Rattle.firing_core.specs.declared.entries.Entry.TheVariants as entry
 use Rattle.firing_core.specs.Entries.{EntryValue, entry_of, entries_of}
@@ -120,21 +120,21 @@ fresh (i ∷ is) (suc p) d n h e = by_test (nat_eq d i) refl (fresh is p d n.1 (
     by_test false t ih = ih
 
 -- the number of the device at a place
-pub number_at : (xs : List Device) (p : ℕ) (x : Device) → p < length xs → get_or (numbers (map device_of xs)) p 0 ≡ (get_or xs p x).id
+pub number_at : (xs : List Device) (p : ℕ) (x : Device) → p < length xs → get_or (numbers (map net_device_of xs)) p 0 ≡ (get_or xs p x).id
 number_at [] p x h = absurd (omega arith)
 number_at (y ∷ ys) zero x h = refl
 number_at (y ∷ ys) (suc p) x h = number_at ys p x (omega arith)
 
 -- a core's network, read through references
 pub record ReadNet (v : CoreValue) (ds : List Device) : Type 0 where
-  pub devices : map device_of ds ≡ v.net.devices
+  pub devices : map net_device_of ds ≡ v.net.devices
   pub network : IsNetwork v.net
 
-pub read_net : (v w : CoreValue) (n : Network) (ds : List Device) → v ≡ w → n ≡ v.net → map device_of ds ≡ n.devices → IsNetwork n → ReadNet w ds
-read_net v w n ds p q e k = subst (λ (u : CoreValue). ReadNet u ds) p (subst (λ (m : Network). m ≡ v.net → map device_of ds ≡ m.devices → IsNetwork m → ReadNet v ds) (sym q) (λ r e k. record { devices = e; network = k }) q e k)
+pub read_net : (v w : CoreValue) (n : Network) (ds : List Device) → v ≡ w → n ≡ v.net → map net_device_of ds ≡ n.devices → IsNetwork n → ReadNet w ds
+read_net v w n ds p q e k = subst (λ (u : CoreValue). ReadNet u ds) p (subst (λ (m : Network). m ≡ v.net → map net_device_of ds ≡ m.devices → IsNetwork m → ReadNet v ds) (sym q) (λ r e k. record { devices = e; network = k }) q e k)
 
 pub many_devices : (v : CoreValue) (ds : List Device) → ReadNet v ds → length ds ≡ length (numbers v.net.devices)
-many_devices v ds r = sym (length-map ds device_of) ∙ ap length r.devices ∙ sym (many_numbers v.net.devices)
+many_devices v ds r = sym (length-map ds net_device_of) ∙ ap length r.devices ∙ sym (many_numbers v.net.devices)
 
 -- the flights of the devices before a place are ended
 pub record SettledTo (old now : BookValue) (place : ℕ) : Type 0 where

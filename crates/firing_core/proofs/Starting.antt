@@ -12,23 +12,23 @@ use Rattle.value_trees.specs.Copies.{WhereSome}
 use Rattle.value_trees.specs.Snaps.{tree_of, snap_copy, IsExportOf}
 use Rattle.topology.specs.Networks.{Network, numbers, IsNetwork}
 use Rattle.firing_core.specs.Cores.{Map, put, Core}
-use Rattle.firing_core.specs.CoreViews.{core_of, slot_at, AllExports, AllFlights, FlightOf, IsCore}
+use Rattle.firing_core.specs.CoreViews.{core_of, device_slot, AllExports, AllFlights, FlightOf, IsCore}
 use Rattle.firing_core.specs.Starts.{look_up, AllLive, TableExports, PendingSnaps, IsTable, IsPending, started}
 use Rattle.firing_core.proofs.Slots.{Distinct, rises_distinct, slot_here, slot_map, slot_set}
 use Rattle.firing_core.proofs.Views.{many_numbers}
 
-empty_at : {X : Type 0} (is : List ℕ) (n d : ℕ) → slot_at is (replicate {A = Option X} n None) d ≡ None
+empty_at : {X : Type 0} (is : List ℕ) (n d : ℕ) → device_slot is (replicate {A = Option X} n None) d ≡ None
 empty_at [] n d = refl
 empty_at (i ∷ is) zero d = refl
 empty_at {X} (i ∷ is) (suc n) d = by_test (nat_eq d i) (empty_at is n d)
   where
-    by_test : (b : Bool) → slot_at is (replicate {A = Option X} n None) d ≡ None → (if b then None else slot_at is (replicate {A = Option X} n None) d) ≡ None
+    by_test : (b : Bool) → device_slot is (replicate {A = Option X} n None) d ≡ None → (if b then None else device_slot is (replicate {A = Option X} n None) d) ≡ None
     by_test true ih = refl
     by_test false ih = ih
 
 -- empty slots are an empty map
-pub nothing_at : {X : Type 0} (is : List ℕ) (n : ℕ) (slots : List (Option X)) → slots ≡ replicate n None → slot_at is slots ≡ (λ d. None)
-nothing_at is n slots e = fun_ext (λ d. ap (λ xs. slot_at is xs d) e ∙ empty_at is n d)
+pub nothing_at : {X : Type 0} (is : List ℕ) (n : ℕ) (slots : List (Option X)) → slots ≡ replicate n None → device_slot is slots ≡ (λ d. None)
+nothing_at is n slots e = fun_ext (λ d. ap (λ xs. device_slot is xs d) e ∙ empty_at is n d)
 
 module _ {X Y : Type 0} (key : X → ℕ) (value : X → Y) where
   -- a map after the elements of a list were put, one after another
@@ -67,14 +67,14 @@ module _ {X Y : Type 0} (key : X → ℕ) (value : X → Y) where
 
   -- the slots of a network after some elements of a list, those that are left, and what all of them make
   pub record Filled (net : Network) (slots : List (Option Y)) (left : List X) (all : Map Y) : Type 0 where
-    pub read : written (slot_at (numbers net.devices) slots) left ≡ all
+    pub read : written (device_slot (numbers net.devices) slots) left ≡ all
     pub there : AllLive net (map key left)
     pub many : length slots ≡ length net.devices
 
   pub filled_none : (net : Network) (slots : List (Option Y)) (left xs : List X) → slots ≡ replicate (length net.devices) None → left ≡ xs → Rises (map key xs) → AllLive net (map key xs) → Filled net slots left (look_up key value xs)
   filled_none net slots left xs e q r t =
       subst (λ (ys : List X). Filled net slots ys (look_up key value xs)) (sym q) (record {
-        read = written_all (slot_at (numbers net.devices) slots) xs (nothing_at (numbers net.devices) (length net.devices) slots e) (rises_distinct (map key xs) r);
+        read = written_all (device_slot (numbers net.devices) slots) xs (nothing_at (numbers net.devices) (length net.devices) slots e) (rises_distinct (map key xs) r);
         there = t;
         many = ap length e ∙ length-replicate (length net.devices) None;
       })
@@ -86,15 +86,15 @@ module _ {X Y : Type 0} (key : X → ℕ) (value : X → Y) where
       let g : Filled net slots (x ∷ rest) all = subst (λ (ys : List X). Filled net slots ys all) q f in
       let n = many_numbers net.devices in
       record {
-        read = ap (λ g. written g rest) (ap (slot_at (numbers net.devices)) m
+        read = ap (λ g. written g rest) (ap (device_slot (numbers net.devices)) m
             ∙ slot_set (numbers net.devices) slots p (Some (value x)) (rises_distinct (numbers net.devices) k.rising) (omega arith) (let l = g.many in omega arith)
-            ∙ ap (λ i. put (slot_at (numbers net.devices) slots) i (Some (value x))) e) ∙ g.read;
+            ∙ ap (λ i. put (device_slot (numbers net.devices) slots) i (Some (value x))) e) ∙ g.read;
         there = g.there.1;
         many = ap length m ∙ length-set slots p (Some (value x)) ∙ g.many;
       }
 
-  pub filled_all : (net : Network) (slots : List (Option Y)) (left : List X) (all : Map Y) → left ≡ [] → Filled net slots left all → slot_at (numbers net.devices) slots ≡ all
-  filled_all net slots left all q f = sym (ap (written (slot_at (numbers net.devices) slots)) q) ∙ f.read
+  pub filled_all : (net : Network) (slots : List (Option Y)) (left : List X) (all : Map Y) → left ≡ [] → Filled net slots left all → device_slot (numbers net.devices) slots ≡ all
+  filled_all net slots left all q f = sym (ap (written (device_slot (numbers net.devices) slots)) q) ∙ f.read
 
   -- what is found, with something done to it
   pub look_map : {Z : Type 0} (f : Y → Z) (xs : List X) (d : ℕ) → option_map f (look_up key value xs d) ≡ look_up key (λ (x : X). f (value x)) xs d
@@ -136,8 +136,8 @@ flights_each U (i ∷ is) (x ∷ xs) l h = (h 0 (omega arith), flights_each U is
 module _ (P : Program) (net : Network) (table : List (ℕ × Export)) (pending : List Snap) (xs : List (Option Export)) (ys : List (Option Snap))
     (network : IsNetwork net)
     (many : length xs ≡ length net.devices) (also : length ys ≡ length net.devices)
-    (es : slot_at (numbers net.devices) xs ≡ look_up (λ (e : ℕ × Export). e.0) (λ (e : ℕ × Export). e.1) table)
-    (ss : slot_at (numbers net.devices) ys ≡ look_up (λ (s : Snap). s.device) (λ (s : Snap). s) pending) where
+    (es : device_slot (numbers net.devices) xs ≡ look_up (λ (e : ℕ × Export). e.0) (λ (e : ℕ × Export). e.1) table)
+    (ss : device_slot (numbers net.devices) ys ≡ look_up (λ (s : Snap). s.device) (λ (s : Snap). s) pending) where
   abbrev is : List ℕ
   is = numbers net.devices
 
@@ -159,7 +159,7 @@ module _ (P : Program) (net : Network) (table : List (ℕ × Export)) (pending :
 
   pub started_core : core_of (record { program = P; net = net; exports = xs; flying = ys }) ≡ started (unfolding_of P) net table pending
   started_core =
-      ap (λ f. let c : Core = record { net = net; exports = f; flying = slot_at (numbers net.devices) (map (option_map (snap_copy (unfolding_of P))) ys) } in c)
+      ap (λ f. let c : Core = record { net = net; exports = f; flying = device_slot (numbers net.devices) (map (option_map (snap_copy (unfolding_of P))) ys) } in c)
       (fun_ext (λ d. slot_map (tree_of (unfolding_of P)) (numbers net.devices) xs d ∙ ap (λ (f : Map Export). option_map (tree_of (unfolding_of P)) (f d)) es ∙ look_map (λ (e : ℕ × Export). e.0) (λ (e : ℕ × Export). e.1) (tree_of (unfolding_of P)) table d))
       ∙ ap (λ f. let c : Core = record { net = net; exports = look_up (λ (e : ℕ × Export). e.0) (λ (e : ℕ × Export). tree_of (unfolding_of P) e.1) table; flying = f } in c)
       (fun_ext (λ d. slot_map (snap_copy (unfolding_of P)) (numbers net.devices) ys d ∙ ap (λ (f : Map Snap). option_map (snap_copy (unfolding_of P)) (f d)) ss ∙ look_map (λ (s : Snap). s.device) (λ (s : Snap). s) (snap_copy (unfolding_of P)) pending d))

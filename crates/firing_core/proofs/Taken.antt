@@ -12,7 +12,7 @@ use Rattle.fc_values.specs.Inputs.{InputsFit}
 use Rattle.value_trees.specs.Copies.{FitsCopy}
 use Rattle.value_trees.specs.Snaps.{tree_of, near_copy, snap_copy, NearAreExports, IsSnap}
 use Rattle.topology.specs.declared.types.Device.{Device}
-use Rattle.topology.specs.Networks.{NetDevice, device_of, numbers, Lives, inputs_in, near}
+use Rattle.topology.specs.Networks.{NetDevice, net_device_of, numbers, Lives, inputs_in, near}
 use Rattle.fc_values.specs.Fields.{is_in}
 use Rattle.firing_core.specs.Cores.{near_copies, copy_of}
 use Rattle.firing_core.specs.CoreViews.{CoreValue, core_of, program_of, IsCore}
@@ -25,26 +25,26 @@ use Rattle.firing_core.proofs.SnapCopies.{own_same, own_export}
 use Rattle.firing_core.proofs.CoreSteps.{export_at, export_kept, export_within}
 
 -- the inputs of the device at a place
-pub inputs_at : (xs : List Device) (p d : ℕ) (x : Device) → Distinct (numbers (map device_of xs)) → p < length xs → x ≡ get_or xs p x → get_or (numbers (map device_of xs)) p 0 ≡ d
-    → map local_of x.inputs.items ≡ inputs_in d (map device_of xs)
+pub inputs_at : (xs : List Device) (p d : ℕ) (x : Device) → Distinct (numbers (map net_device_of xs)) → p < length xs → x ≡ get_or xs p x → get_or (numbers (map net_device_of xs)) p 0 ≡ d
+    → map local_of x.inputs.items ≡ inputs_in d (map net_device_of xs)
 inputs_at [] p d x n h q e = absurd (omega arith)
 inputs_at (y ∷ ys) zero d x n h q e = let t = eq-eqb d y.id (sym e) in rw t (ap (λ (z : Device). map local_of z.inputs.items) q)
 inputs_at (y ∷ ys) (suc p) d x n h q e = by_test (nat_eq d y.id) refl (inputs_at ys p d x n.1 (omega arith) q e)
   where
-    by_test : (b : Bool) → nat_eq d y.id ≡ b → map local_of x.inputs.items ≡ inputs_in d (map device_of ys) → map local_of x.inputs.items ≡ (if b then map local_of y.inputs.items else inputs_in d (map device_of ys))
-    by_test true t ih = let z = eqb-true d y.id t in let m = many_numbers (map device_of ys) in let l = same_length ys in absurd (n.0 p (omega arith) (e ∙ z))
+    by_test : (b : Bool) → nat_eq d y.id ≡ b → map local_of x.inputs.items ≡ inputs_in d (map net_device_of ys) → map local_of x.inputs.items ≡ (if b then map local_of y.inputs.items else inputs_in d (map net_device_of ys))
+    by_test true t ih = let z = eqb-true d y.id t in let m = many_numbers (map net_device_of ys) in let l = same_length ys in absurd (n.0 p (omega arith) (e ∙ z))
       where
-        same_length : (zs : List Device) → length (map device_of zs) ≡ length zs
+        same_length : (zs : List Device) → length (map net_device_of zs) ≡ length zs
         same_length [] = refl
         same_length (w ∷ ws) = ap suc (same_length ws)
     by_test false t ih = ih
 
 -- in the network of a core
-pub device_inputs : (v : CoreValue) → IsCore v → (p d : ℕ) (xs : List Device) (x : Device) → map device_of xs ≡ v.net.devices → p < length v.net.devices → get_or (numbers v.net.devices) p 0 ≡ d → x ≡ get_or xs p x
+pub device_inputs : (v : CoreValue) → IsCore v → (p d : ℕ) (xs : List Device) (x : Device) → map net_device_of xs ≡ v.net.devices → p < length v.net.devices → get_or (numbers v.net.devices) p 0 ≡ d → x ≡ get_or xs p x
     → map local_of x.inputs.items ≡ inputs_in d v.net.devices
 device_inputs v k p d xs x all h q i =
-    let n : Distinct (numbers (map device_of xs)) = subst (λ (ns : List NetDevice). Distinct (numbers ns)) (sym all) (rises_distinct _ k.net.rising) in
-    let l : p < length xs = omega (arith, h, length-map xs device_of, ap length all) in
+    let n : Distinct (numbers (map net_device_of xs)) = subst (λ (ns : List NetDevice). Distinct (numbers ns)) (sym all) (rises_distinct _ k.net.rising) in
+    let l : p < length xs = omega (arith, h, length-map xs net_device_of, ap length all) in
     inputs_at xs p d x n l i (subst (λ (ns : List NetDevice). get_or (numbers ns) p 0 ≡ d) (sym all) q) ∙ ap (inputs_in d) all
 
 -- a number at a place is among the numbers

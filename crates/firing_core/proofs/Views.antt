@@ -13,7 +13,7 @@ use Rattle.value_trees.specs.Snaps.{tree_of, snap_copy, IsExportOf}
 use Rattle.topology.specs.Networks.{NetDevice, numbers}
 use Rattle.fc_values.specs.Fields.{is_in}
 use Rattle.firing_core.specs.Cores.{IsGood}
-use Rattle.firing_core.specs.CoreViews.{CoreValue, core_of, program_of, slot_at, AllExports, AllFlights, FlightOf, IsCore}
+use Rattle.firing_core.specs.CoreViews.{CoreValue, core_of, program_of, device_slot, AllExports, AllFlights, FlightOf, IsCore}
 
 module _ (U : Unfolding) where
   pub record HasExport (d : ℕ) (is : List ℕ) (e : TreeExport) : Type 0 where
@@ -24,12 +24,12 @@ module _ (U : Unfolding) where
   typed_of None e w q = absurd (cc)
   typed_of (Some x) e w q = let p : tree_of U x ≡ e = cc in subst (IsWellTyped U) p w.typed
 
-  pub export_there : (is : List ℕ) (xs : List (Option Export)) (d : ℕ) (e : TreeExport) → AllExports U xs → slot_at is (map (option_map (tree_of U)) xs) d ≡ Some e → HasExport d is e
+  pub export_there : (is : List ℕ) (xs : List (Option Export)) (d : ℕ) (e : TreeExport) → AllExports U xs → device_slot is (map (option_map (tree_of U)) xs) d ≡ Some e → HasExport d is e
   export_there [] xs d e a q = absurd (cc)
   export_there (i ∷ is) [] d e a q = absurd (cc)
   export_there (i ∷ is) (x ∷ xs) d e a q = by_test (nat_eq d i) refl q (export_there is xs d e a.1)
     where
-      by_test : (b : Bool) → nat_eq d i ≡ b → (if b then option_map (tree_of U) x else slot_at is (map (option_map (tree_of U)) xs) d) ≡ Some e → (slot_at is (map (option_map (tree_of U)) xs) d ≡ Some e → HasExport d is e) → HasExport d (i ∷ is) e
+      by_test : (b : Bool) → nat_eq d i ≡ b → (if b then option_map (tree_of U) x else device_slot is (map (option_map (tree_of U)) xs) d) ≡ Some e → (device_slot is (map (option_map (tree_of U)) xs) d ≡ Some e → HasExport d is e) → HasExport d (i ∷ is) e
       by_test true t q ih = record { there = rw t refl; typed = typed_of x e a.0 q }
       by_test false t q ih = let r = ih q in record { there = rw t r.there; typed = r.typed }
 
@@ -42,12 +42,12 @@ module _ (U : Unfolding) where
   flight_of None i d s k w q = absurd (cc)
   flight_of (Some x) i d s k w q = let p : snap_copy U x ≡ s = cc in (ap (λ (c : Copy). c.device) (sym p) ∙ w.names ∙ k, subst (FitsCopy U) p w.snap.fits)
 
-  pub flight_there : (is : List ℕ) (xs : List (Option Snap)) (d : ℕ) (s : Copy) → AllFlights U is xs → slot_at is (map (option_map (snap_copy U)) xs) d ≡ Some s → HasFlight d is s
+  pub flight_there : (is : List ℕ) (xs : List (Option Snap)) (d : ℕ) (s : Copy) → AllFlights U is xs → device_slot is (map (option_map (snap_copy U)) xs) d ≡ Some s → HasFlight d is s
   flight_there [] xs d s a q = absurd (cc)
   flight_there (i ∷ is) [] d s a q = absurd (cc)
   flight_there (i ∷ is) (x ∷ xs) d s a q = by_test (nat_eq d i) refl q (flight_there is xs d s a.1)
     where
-      by_test : (b : Bool) → nat_eq d i ≡ b → (if b then option_map (snap_copy U) x else slot_at is (map (option_map (snap_copy U)) xs) d) ≡ Some s → (slot_at is (map (option_map (snap_copy U)) xs) d ≡ Some s → HasFlight d is s) → HasFlight d (i ∷ is) s
+      by_test : (b : Bool) → nat_eq d i ≡ b → (if b then option_map (snap_copy U) x else device_slot is (map (option_map (snap_copy U)) xs) d) ≡ Some s → (device_slot is (map (option_map (snap_copy U)) xs) d ≡ Some s → HasFlight d is s) → HasFlight d (i ∷ is) s
       by_test true t q ih = let k = eqb-true d i t in let f = flight_of x i d s (sym k) a.0 q in record { there = rw t refl; names = f.0; fits = f.1 }
       by_test false t q ih = let r = ih q in record { there = rw t r.there; names = r.names; fits = r.fits }
 

@@ -28,10 +28,10 @@ abbrev pub near_view : Near → ℕ × ℕ × FlatExport
 near_view n = (n.device, n.weight, export_of n.export)
 
 -- the slot of a device
-abbrev pub slot_at : {X : Type 0} → List ℕ → List (Option X) → Map X
-slot_at [] xs d = None
-slot_at (i ∷ is) [] d = None
-slot_at (i ∷ is) (x ∷ xs) d = if nat_eq d i then x else slot_at is xs d
+abbrev pub device_slot : {X : Type 0} → List ℕ → List (Option X) → Map X
+device_slot [] xs d = None
+device_slot (i ∷ is) [] d = None
+device_slot (i ∷ is) (x ∷ xs) d = if nat_eq d i then x else device_slot is xs d
 
 abbrev pub program_of : CoreValue → Unfolding
 program_of c = unfolding_of c.program
@@ -40,8 +40,8 @@ program_of c = unfolding_of c.program
 abbrev pub core_of : CoreValue → Core
 core_of c = record {
   net = c.net;
-  exports = slot_at (numbers c.net.devices) (map (option_map (tree_of (program_of c))) c.exports);
-  flying = slot_at (numbers c.net.devices) (map (option_map (snap_copy (program_of c))) c.flying);
+  exports = device_slot (numbers c.net.devices) (map (option_map (tree_of (program_of c))) c.exports);
+  flying = device_slot (numbers c.net.devices) (map (option_map (snap_copy (program_of c))) c.flying);
 }
 
 -- an edit leads from a core to another

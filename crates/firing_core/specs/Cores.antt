@@ -101,7 +101,7 @@ pub record Edits (U : Unfolding) (c : Core) (e : EditValue) (next : Core) : Type
 
 -- ---- steps
 
--- one step, where a begin of device d takes its copy from the table that it sees
+-- one step, where a begin of device d takes its copy from the table `sees d`; over message links each has its own
 abbrev pub StepSeeing : Unfolding → (ℕ → Map TreeExport) → Core → EntryValue → Core → Type 0
 StepSeeing U sees c (BeginEntry d) next = Lives c.net d × (c.flying d ≡ None) × (next ≡ begun (sees d) c d)
 StepSeeing U sees c (EndEntry d) next = Ends U c d next

@@ -2,7 +2,7 @@
 use Rattle.std.specs.Prelude.{ℕ, List, map}
 use Rattle.fc_values.specs.Exports.{FlatExport, export_of}
 use Rattle.fc_values.specs.Values.{LocalValue, local_of}
-use Rattle.topology.specs.Networks.{NetDevice, device_of}
+use Rattle.topology.specs.Networks.{NetDevice, net_device_of}
 use Rattle.firing_core.specs.declared.entries.Edit.{Edit}
 use Rattle.firing_core.specs.declared.entries.Edit.TheVariants as edit
 use Rattle.firing_core.specs.declared.entries.Entry.{Entry}
@@ -25,12 +25,13 @@ pub data EntryValue : Type 0 where
   IdleEntry : EntryValue
   EditEntry : EditValue → EntryValue
 
+-- the edits, entries and logs that those of the code stand for
 abbrev pub edit_of : Edit → EditValue
 edit_of (edit.Link a b w) = LinkEdit a b w
 edit_of (edit.Unlink a b) = UnlinkEdit a b
 edit_of (edit.Set d i v) = SetEdit d i (local_of v)
 edit_of (edit.Poke d e) = PokeEdit d (export_of e)
-edit_of (edit.Join x) = JoinEdit (device_of x)
+edit_of (edit.Join x) = JoinEdit (net_device_of x)
 edit_of (edit.Leave d) = LeaveEdit d
 
 abbrev pub entry_of : Entry → EntryValue

@@ -3,6 +3,7 @@ use Rattle.std.specs.Prelude.{ℕ, zero, suc, Bool, true, false, ◌≡◌, ◌�
 use Rattle.fc_values.specs.Fields.{is_in}
 use Rattle.firing_core.specs.Entries.{EntryValue, BeginEntry, EndEntry, IdleEntry, EditEntry}
 
+-- whether an entry is an edit, and whether a log has one
 abbrev pub is_edit : EntryValue → Bool
 is_edit (BeginEntry d) = false
 is_edit (EndEntry d) = false
@@ -23,7 +24,7 @@ abbrev pub HasEnd : ℕ → List EntryValue → Type 0
 HasEnd d [] = ⊥
 HasEnd d (e ∷ es) = (e ≡ EndEntry d) ⊎ HasEnd d es
 
--- a device begins a firing, and later ends one
+-- a device begins a firing, and later ends one: the same, since a device in flight begins no other (`StepSeeing`)
 abbrev pub HasFiring : ℕ → List EntryValue → Type 0
 HasFiring d [] = ⊥
 HasFiring d (e ∷ es) = ((e ≡ BeginEntry d) × HasEnd d es) ⊎ HasFiring d es

@@ -47,7 +47,7 @@ impl Core {
     ghost use Rattle.std.specs.Prelude.{IsErrOf, Some, None, [], option_map, length, slice_index, vec_capacity, ◌≤◌};
     ghost use Rattle.fc_nodes.specs.Program.{unfolding_of};
     ghost use Rattle.value_trees.specs.Snaps.{snap_copy, tree_of, NearAreExports, IsSnap, IsExportOf};
-    ghost use Rattle.topology.specs.Networks.{numbers, device_of, near as near_of};
+    ghost use Rattle.topology.specs.Networks.{numbers, net_device_of, near as near_of};
     ghost use Rattle.firing_core.specs.Cores.{Step, IsGood, EditFits, edit_fault, copy_of};
     ghost use Rattle.firing_core.specs.Replays.{fault_of};
     ghost use Rattle.firing_core.specs.CoreViews.{core_of, program_of, IsCore, IsSameCore, Edited, AreNear, FiresFlight, Publishes};
@@ -359,8 +359,8 @@ impl Core {
 
     fn join(&mut self, alloc: Global, device: &Device) -> Result<(), EditFault>
         requires { device.now.id ≤ GREATEST_NUMBER }
-        ensures ok { OnOk result (Edited self.old (JoinEdit (device_of device.now)) self.new) }
-        ensures refused { IfErr result (RefusesEdit (core_of self.old) (JoinEdit (device_of device.now))) }
+        ensures ok { OnOk result (Edited self.old (JoinEdit (net_device_of device.now)) self.new) }
+        ensures refused { IfErr result (RefusesEdit (core_of self.old) (JoinEdit (net_device_of device.now))) }
         ensures err { OnErr result (self.new ≡ self.old) }
         ensures program { self.new.program ≡ self.old.program }
     {

@@ -4,7 +4,7 @@ ghost use Rattle.std.specs.Prelude.{◌≡◌, ◌<◌, ◌≤◌, vec_len, vec_
 ghost use Rattle.std.specs.List.{insert};
 ghost use Rattle.fc_values.specs.Fields.{Rises};
 ghost use Rattle.topology.specs.Networks.{numbers, IsNetwork};
-ghost use Rattle.firing_core.specs.CoreViews.{slot_at};
+ghost use Rattle.firing_core.specs.CoreViews.{device_slot};
 ghost use Rattle.firing_core.specs.Starts.{export_in, flight_in, owners, named, AllLive};
 
 use fc_values::{Export, Memory};
@@ -40,7 +40,7 @@ pub(crate) fn export_slots(
 ) -> Result<Vec<Option<Published>>, Memory>
     requires rising { Rises (owners table.items) }
     requires there { AllLive net.now (owners table.items) }
-    ensures slots { IfOk result (λ v. slot_at (numbers net.now.devices) v.items ≡ export_in table.items) }
+    ensures slots { IfOk result (λ v. device_slot (numbers net.now.devices) v.items ≡ export_in table.items) }
     ensures many { IfOk result (λ v. length v.items ≡ length net.now.devices) }
     ensures network { OnOk result (IsNetwork net.now) }
 {
@@ -62,7 +62,7 @@ pub(crate) fn flight_slots(
 ) -> Result<Vec<Option<Snap>>, Memory>
     requires rising { Rises (named pending.items) }
     requires there { AllLive net.now (named pending.items) }
-    ensures slots { IfOk result (λ v. slot_at (numbers net.now.devices) v.items ≡ flight_in pending.items) }
+    ensures slots { IfOk result (λ v. device_slot (numbers net.now.devices) v.items ≡ flight_in pending.items) }
     ensures many { IfOk result (λ v. length v.items ≡ length net.now.devices) }
 {
     let mut slots = no_slots(alloc, net.devices().len())?;

@@ -18,7 +18,7 @@ use Rattle.fragment_check.specs.declared.kinds.Pattern.{Pattern}
 use Rattle.fragment_check.specs.declared.kinds.Pattern.TheVariants as pattern
 use Rattle.fragment_check.specs.declared.facts.Guarding.{Guarding}
 use Rattle.fragment_check.specs.declared.facts.Guarding.TheVariants as guarding
-use Rattle.fragment_check.specs.Patterns.{is_nested, is_nested_in, is_bare, is_unguarded, bare_beside, guarding_of, two_of, three_of, settled_hood, hood_of, rise_of, risen_hood, risen_form, form_by, form_of, IsOther, is_pair, raising, minimising, minimising_by, rising, rising_by, by_form, by_guarding, no_pattern, body_pattern}
+use Rattle.fragment_check.specs.Patterns.{is_nested, is_nested_in, is_bare, is_unguarded, bare_beside, guarding_of, two_of, three_of, settled_hood, hood_of, rise_of, risen_hood, risen_form, form_by, evolution_form, IsOther, is_pair_range, raising, minimising, minimising_by, rising, rising_by, by_form, by_guarding, no_pattern, body_pattern}
 use Rattle.fragment_check.specs.Shapes.{HasPattern, constant, acyclic, minimising as minimises, rising as rises}
 use Rattle.fragment_check.proofs.Shaped.{or_left, or_right, and_left, and_right, not_true, shallow, guarded, guarded_bare, Within}
 
@@ -138,26 +138,26 @@ record Minimises (m : ℕ) (l : RangeValue) (g : GrowthValue) (a : Pattern) : Ty
   growth : ℕ
   grows : g ≡ Grows growth
   some : 1 ≤ growth
-  lead : is_pair l ≡ true → greatest_integer l ≡ m → ⊥
+  lead : is_pair_range l ≡ true → greatest_integer l ≡ m → ⊥
   pattern_is : a ≡ pattern.Minimising (greatest_integer l) growth
 
 minimises_is : (m : ℕ) (l : RangeValue) (g : GrowthValue) (a : Pattern) → minimising m g l ≡ Ok a → Minimises m l g a
 minimises_is m l g a e = by_raising (raising g) refl e
   where
-    by_lead : (c : ℕ) (b : Bool) → (is_pair l && nat_eq (greatest_integer l) m) ≡ b → ◌≡◌ {A = Result Pattern Reason} (if b then Err reason.LeadAtCeiling else Ok (pattern.Minimising (greatest_integer l) c)) (Ok a)
+    by_lead : (c : ℕ) (b : Bool) → (is_pair_range l && nat_eq (greatest_integer l) m) ≡ b → ◌≡◌ {A = Result Pattern Reason} (if b then Err reason.LeadAtCeiling else Ok (pattern.Minimising (greatest_integer l) c)) (Ok a)
         → (g ≡ Grows c) × (1 ≤ c) → Minimises m l g a
     by_lead c true k e r = no_err reason.LeadAtCeiling a e
     by_lead c false k e r = record {
       growth = c;
       grows = r.0;
       some = r.1;
-      lead = λ i j. let n : nat_eq (greatest_integer l) m ≡ true = grind (arith, nat_tests, j) in let q : (is_pair l && nat_eq (greatest_integer l) m) ≡ true = rw (i, n) refl in let w : true ≡ false = sym q ∙ k in absurd cc;
+      lead = λ i j. let n : nat_eq (greatest_integer l) m ≡ true = grind (arith, nat_tests, j) in let q : (is_pair_range l && nat_eq (greatest_integer l) m) ≡ true = rw (i, n) refl in let w : true ≡ false = sym q ∙ k in absurd cc;
       pattern_is = sym (ok_is (pattern.Minimising (greatest_integer l) c) a e);
     }
 
     by_raising : (r : Result ℕ Reason) → raising g ≡ r → minimising_by m l r ≡ Ok a → Minimises m l g a
     by_raising (Err f) k e = no_err f a e
-    by_raising (Ok c) k e = by_lead c (is_pair l && nat_eq (greatest_integer l) m) refl e (raising_is g c k)
+    by_raising (Ok c) k e = by_lead c (is_pair_range l && nat_eq (greatest_integer l) m) refl e (raising_is g c k)
 
 record Rises (l s : RangeValue) (g : GrowthValue) (a : Pattern) : Type 0 where
   growth : ℕ
@@ -250,14 +250,14 @@ other_shape D scope m R ByRep x p s u a g ty n b k = risen_shape D scope m R x p
 other_shape D scope m R ByShare x p s u a g ty n b k = no_err (no_pattern g) a k
 
 module _ (D : Declarations) (scope : Scope) (m : ℕ) (R : ℕ → RangeValue) (e : Evolution) (x p : ℕ) (s : LocalType) (u : Term) (a : Pattern) (ty : HasType D ((x, evolving_type e s) ∷ scope) p u) where
-  form_shape : (g : Guarding) → occurs x u ≡ true → is_nested e x u ≡ false → is_unguarded e x u ≡ false → by_form m R e x p g (form_of e x u) ≡ Ok a → HasPattern m R e x p s u a
+  form_shape : (g : Guarding) → occurs x u ≡ true → is_nested e x u ≡ false → is_unguarded e x u ≡ false → by_form m R e x p g (evolution_form e x u) ≡ Ok a → HasPattern m R e x p s u a
   form_shape g o n b k = by_hood (hood_of x u) refl k
     where
       by_hood : (h : Option (Term × Term)) → hood_of x u ≡ h → by_form m R e x p g (form_by h (risen_form e x (rise_of u))) ≡ Ok a → HasPattern m R e x p s u a
       by_hood None r k = other_shape D scope m R e x p s u a g ty n b k
       by_hood (Some (h, l)) r k = hood_shape D scope m R e x p s u h l a (hood_is x u h l r) ty o n b k
 
-  guarded_shape : (g : Guarding) → guarding_of e x u ≡ g → occurs x u ≡ true → is_nested e x u ≡ false → is_unguarded e x u ≡ false → by_guarding g (by_form m R e x p g (form_of e x u)) ≡ Ok a → HasPattern m R e x p s u a
+  guarded_shape : (g : Guarding) → guarding_of e x u ≡ g → occurs x u ≡ true → is_nested e x u ≡ false → is_unguarded e x u ≡ false → by_guarding g (by_form m R e x p g (evolution_form e x u)) ≡ Ok a → HasPattern m R e x p s u a
   guarded_shape guarding.Unused z o n b k = form_shape guarding.Unused o n b k
   guarded_shape guarding.Others z o n b k = form_shape guarding.Others o n b k
   guarded_shape guarding.Missing z o n b k = form_shape guarding.Missing o n b k
@@ -270,7 +270,7 @@ module _ (D : Declarations) (scope : Scope) (m : ℕ) (R : ℕ → RangeValue) (
   body_shape k = by_use (occurs x u) refl k
     where
       rest : Result Pattern Reason
-      rest = by_guarding (guarding_of e x u) (by_form m R e x p (guarding_of e x u) (form_of e x u))
+      rest = by_guarding (guarding_of e x u) (by_form m R e x p (guarding_of e x u) (evolution_form e x u))
 
       by_bare : (c : Bool) → is_unguarded e x u ≡ c → occurs x u ≡ true → is_nested e x u ≡ false → (if c then Err reason.Unguarded else rest) ≡ Ok a → HasPattern m R e x p s u a
       by_bare true z o n k = no_err reason.Unguarded a k

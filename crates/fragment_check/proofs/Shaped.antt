@@ -6,7 +6,7 @@ use Rattle.fc_values.specs.declared.builtins.Builtin.{Builtin}
 use Rattle.fc_values.specs.declared.builtins.Builtin.TheVariants as op
 use Rattle.fc_values.specs.Types.{LocalType, IntType, BoolType, PairType, ValueType, TypeLocal, TypeField, Declarations}
 use Rattle.fc_nodes.specs.Typing.{Scope, type_at, HasType, HaveTypes, evolving_type}
-use Rattle.fc_nodes.specs.Terms.{Leaf, Literal, Variable, Sense, Uid, NbrLink, Evolution, ByRep, ByShare, Term, Terms, Plain, Apply, Nbr, Evolve, If, Let, NoMore, More, type_of, size}
+use Rattle.fc_nodes.specs.Terms.{Leaf, Literal, Variable, Sense, Uid, NbrLink, Evolution, ByRep, ByShare, Term, Terms, Plain, Apply, Nbr, Evolve, If, Let, NoMore, More, term_type, size}
 use Rattle.fc_nodes.specs.Variables.{is_variable, occurs, occurs_in, is_own, is_heard}
 use Rattle.growth_facts.specs.Beside.{Shallow, AllShallow}
 use Rattle.fragment_check.specs.declared.facts.Guarding.{Guarding}
@@ -79,7 +79,7 @@ share_field : (D : Declarations) (scope : Scope) (e : Evolution) (x p : ℕ) (s 
 share_field D scope ByRep x p s t l h k i = absurd cc
 share_field D scope ByShare x p s t l h k i = sym (leaf_type D scope ByShare x s p t l h k)
 
-own_local : (D : Declarations) (scope : Scope) (x p : ℕ) (s : LocalType) (a : Term) → HasType D ((x, TypeLocal s) ∷ scope) p a → is_own x a ≡ true → type_of a ≡ TypeLocal s
+own_local : (D : Declarations) (scope : Scope) (x p : ℕ) (s : LocalType) (a : Term) → HasType D ((x, TypeLocal s) ∷ scope) p a → is_own x a ≡ true → term_type a ≡ TypeLocal s
 own_local D scope x p s (Plain t l) h k = sym (leaf_type D scope ByRep x s p t l h k)
 own_local D scope x p s (Apply t o xs) h k = absurd cc
 own_local D scope x p s (Nbr t a) h k = absurd cc

@@ -20,7 +20,7 @@ use Rattle.fragment_check.specs.declared.kinds.Pattern.TheVariants as pattern
 use Rattle.fragment_check.specs.declared.facts.Guarding.{Guarding}
 use Rattle.fragment_check.specs.declared.facts.Guarding.TheVariants as guarding
 use Rattle.fragment_check.specs.Facts.{is_mux}
-use Rattle.fragment_check.specs.Patterns.{is_nested, is_nested_in, is_bare, is_bare_in, is_unguarded, bare_beside, guard, guard_by, guarding_of, guarding_in, guarding_or, together, three_of, comparison, rise_of, form_of, IsHood, IsRise, is_pair, raising, minimising, minimising_by, rising, rising_by, by_form, by_guarding, body_pattern}
+use Rattle.fragment_check.specs.Patterns.{is_nested, is_nested_in, is_bare, is_bare_in, is_unguarded, bare_beside, guard, guard_by, guarding_of, guarding_in, guarding_or, together, three_of, comparison, rise_of, evolution_form, IsHood, IsRise, is_pair_range, raising, minimising, minimising_by, rising, rising_by, by_form, by_guarding, body_pattern}
 use Rattle.fragment_check.specs.Shapes.{HasPattern, constant, acyclic, minimising as minimises, rising as rises, IsGuard, guards, Guarded, AllGuarded}
 use Rattle.fragment_check.proofs.Steps.{mux_alone, no_mux}
 use Rattle.fragment_check.proofs.Absent.{unheard, not_guarded}
@@ -195,11 +195,11 @@ raising_known g c e l =
     let k : nat_eq c 0 ≡ false = grind (arith, nat_tests, l) in
     ap raising e ∙ ap (λ b. if b then Err reason.GrowthZero else Ok c) k
 
-minimising_found : (m : ℕ) (g : GrowthValue) (l : RangeValue) (c : ℕ) → g ≡ Grows c → 1 ≤ c → (is_pair l ≡ true → greatest_integer l ≡ m → ⊥) → IsFound (minimising m g l)
-minimising_found m g l c e some lead = subst (λ r. IsFound (minimising_by m l r)) (sym (raising_known g c e some)) (by_lead (is_pair l) (nat_eq (greatest_integer l) m) refl refl)
+minimising_found : (m : ℕ) (g : GrowthValue) (l : RangeValue) (c : ℕ) → g ≡ Grows c → 1 ≤ c → (is_pair_range l ≡ true → greatest_integer l ≡ m → ⊥) → IsFound (minimising m g l)
+minimising_found m g l c e some lead = subst (λ r. IsFound (minimising_by m l r)) (sym (raising_known g c e some)) (by_lead (is_pair_range l) (nat_eq (greatest_integer l) m) refl refl)
   where
-    by_lead : (a b : Bool) → is_pair l ≡ a → nat_eq (greatest_integer l) m ≡ b
-        → IsFound (if is_pair l && nat_eq (greatest_integer l) m then Err reason.LeadAtCeiling else Ok (pattern.Minimising (greatest_integer l) c))
+    by_lead : (a b : Bool) → is_pair_range l ≡ a → nat_eq (greatest_integer l) m ≡ b
+        → IsFound (if is_pair_range l && nat_eq (greatest_integer l) m then Err reason.LeadAtCeiling else Ok (pattern.Minimising (greatest_integer l) c))
     by_lead true true i j = absurd (lead i (grind (arith, nat_tests, j)))
     by_lead true false i j = rw (i, j) tt
     by_lead false b i j = rw i tt
@@ -218,24 +218,24 @@ by_guarding_found guarding.Missing r k = k
 -- ---- a body
 
 module _ (m : ℕ) (R : ℕ → RangeValue) (e : Evolution) (x p : ℕ) (s : LocalType) where
-  body_found : (u : Term) → occurs x u ≡ true → is_nested e x u ≡ false → is_unguarded e x u ≡ false → IsFound (by_guarding (guarding_of e x u) (by_form m R e x p (guarding_of e x u) (form_of e x u)))
+  body_found : (u : Term) → occurs x u ≡ true → is_nested e x u ≡ false → is_unguarded e x u ≡ false → IsFound (by_guarding (guarding_of e x u) (by_form m R e x p (guarding_of e x u) (evolution_form e x u)))
       → IsFound (body_pattern m R e x p u)
   body_found u o n b k = rw (o, n, b) k
 
   acyclic_found : (u : Term) (q : ℕ) → occurs x u ≡ true → Shallow e x s u → Guarded e x q u → IsFound (body_pattern m R e x p u)
   acyclic_found u q o sh g =
       let k : guarding_of e x u ≡ guarding.Potential q = guarding_known e x q u g ∙ ap (guarding_if q) o in
-      body_found u o (shallow_nested e x s u sh) (shallow_guarded e x s u sh) (subst (λ i. IsFound (by_guarding i (by_form m R e x p i (form_of e x u)))) (sym k) tt)
+      body_found u o (shallow_nested e x s u sh) (shallow_guarded e x s u sh) (subst (λ i. IsFound (by_guarding i (by_form m R e x p i (evolution_form e x u)))) (sym k) tt)
 
   hood_found : (t : ValueType) (h l : Term) (c : ℕ) → occurs x (Apply t op.MinHoodLoc (More h (More l NoMore))) ≡ true → occurs x l ≡ false → Shallow e x s (Apply t op.MinHoodLoc (More h (More l NoMore)))
-      → growth_of m R e x (suc p) h ≡ Grows c → 1 ≤ c → (is_pair (R (suc p + size h)) ≡ true → greatest_integer (R (suc p + size h)) ≡ m → ⊥)
+      → growth_of m R e x (suc p) h ≡ Grows c → 1 ≤ c → (is_pair_range (R (suc p + size h)) ≡ true → greatest_integer (R (suc p + size h)) ≡ m → ⊥)
       → IsFound (body_pattern m R e x p (Apply t op.MinHoodLoc (More h (More l NoMore))))
   hood_found t h l c o f sh g some lead =
       let U = Apply t op.MinHoodLoc (More h (More l NoMore)) in
       let found = minimising_found m (growth_of m R e x (suc p) h) (R (suc p + size h)) c g some lead in
-      let is : form_of e x U ≡ IsHood h l = rw f refl in
+      let is : evolution_form e x U ≡ IsHood h l = rw f refl in
       body_found U o (shallow_nested e x s U sh) (shallow_guarded e x s U sh)
-      (by_guarding_found (guarding_of e x U) (by_form m R e x p (guarding_of e x U) (form_of e x U)) (subst (λ i. IsFound (by_form m R e x p (guarding_of e x U) i)) (sym is) found))
+      (by_guarding_found (guarding_of e x U) (by_form m R e x p (guarding_of e x U) (evolution_form e x U)) (subst (λ i. IsFound (by_form m R e x p (guarding_of e x U) i)) (sym is) found))
 
 module _ (m : ℕ) (R : ℕ → RangeValue) (x p : ℕ) (s : LocalType) where
   rise_found : (t u : ValueType) (h l own w : Term) (c : ℕ) → is_own x own ≡ true → occurs x l ≡ false → occurs x w ≡ false
@@ -251,9 +251,9 @@ module _ (m : ℕ) (R : ℕ → RangeValue) (x p : ℕ) (s : LocalType) where
       let beside : (is_bare ByRep x A || is_bare ByRep x w) ≡ false = no_or (is_bare ByRep x A) (is_bare ByRep x w) (shallow_bare ByRep x s A sh) (shallow_bare ByRep x s w sw) in
       let guarded : is_unguarded ByRep x U ≡ false = ap (λ c. if c then is_bare ByRep x A || is_bare ByRep x w else is_bare ByRep x U) o ∙ beside in
       let found = rising_found (growth_of m R ByRep x (suc (suc p)) h) (R (suc (suc p) + size h)) (R (suc (suc (suc p + size h + size l)))) c g some rise in
-      let is : form_of ByRep x U ≡ IsRise h l w = rw (o, fw, f) refl in
+      let is : evolution_form ByRep x U ≡ IsRise h l w = rw (o, fw, f) refl in
       body_found m R ByRep x p s U used nested guarded
-      (by_guarding_found (guarding_of ByRep x U) (by_form m R ByRep x p (guarding_of ByRep x U) (form_of ByRep x U)) (subst (λ i. IsFound (by_form m R ByRep x p (guarding_of ByRep x U) i)) (sym is) found))
+      (by_guarding_found (guarding_of ByRep x U) (by_form m R ByRep x p (guarding_of ByRep x U) (evolution_form ByRep x U)) (subst (λ i. IsFound (by_form m R ByRep x p (guarding_of ByRep x U) i)) (sym is) found))
 
 shape_found : (m : ℕ) (R : ℕ → RangeValue) (e : Evolution) (x p : ℕ) (s : LocalType) (u : Term) (a : Pattern) → HasPattern m R e x p s u a → IsFound (body_pattern m R e x p u)
 shape_found m R e x p s u a (constant u' o) = rw o tt

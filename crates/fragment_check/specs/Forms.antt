@@ -9,7 +9,7 @@ use Rattle.fc_nodes.specs.Places.{StandsAt}
 use Rattle.fragment_check.specs.declared.facts.Own.{Own}
 use Rattle.fragment_check.specs.declared.forms.Places.{Places}
 use Rattle.fragment_check.specs.declared.forms.Places.TheVariants as places
-use Rattle.fragment_check.specs.Patterns.{Form, form_of, risen_form, IsHood, IsRise, IsOther, hood_of, rise_of}
+use Rattle.fragment_check.specs.Patterns.{Form, evolution_form, risen_form, IsHood, IsRise, IsOther, hood_of, rise_of}
 use Rattle.fragment_check.specs.Facts.{evolution_of}
 
 abbrev pub is_builtin_sort : Builtin → Sort → Bool
@@ -64,7 +64,7 @@ PartsOf ns p f places.Other = f ≡ IsOther
 
 -- the parts of the body at a place
 abbrev pub IsFormOf : List Node → Own → ℕ → Places → Type 0
-IsFormOf ns own p = PartsOf ns p (form_of (evolution_of own) own.place (term_at ns p))
+IsFormOf ns own p = PartsOf ns p (evolution_form (evolution_of own) own.place (term_at ns p))
 
 -- the same of a body that is no settled `minHoodLoc`
 abbrev pub IsRisenFormOf : List Node → Own → ℕ → Places → Type 0

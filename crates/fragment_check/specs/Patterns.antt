@@ -157,8 +157,8 @@ abbrev pub form_by : Option (Term × Term) → Form → Form
 form_by (Some (h, l)) other = IsHood h l
 form_by None other = other
 
-abbrev pub form_of : Evolution → ℕ → Term → Form
-form_of e x u = form_by (hood_of x u) (risen_form e x (rise_of u))
+abbrev pub evolution_form : Evolution → ℕ → Term → Form
+evolution_form e x u = form_by (hood_of x u) (risen_form e x (rise_of u))
 
 -- some occurrence of a body is neither that of what is heard nor, in a `rep`, the second argument of a body rise(a, x,
 -- s)
@@ -171,10 +171,10 @@ is_unguarded e x u = bare_beside e x (rise_of u) (is_bare e x u)
 
 -- ---- the pattern
 
-abbrev pub is_pair : RangeValue → Bool
-is_pair (IntRange a b) = false
-is_pair BoolRange = false
-is_pair (PairRange r s) = true
+abbrev pub is_pair_range : RangeValue → Bool
+is_pair_range (IntRange a b) = false
+is_pair_range BoolRange = false
+is_pair_range (PairRange r s) = true
 
 -- a growth that raises, or why there is none
 abbrev pub raising : GrowthValue → Result ℕ Reason
@@ -185,7 +185,7 @@ raising (Grows c) = if nat_eq c 0 then Err reason.GrowthZero else Ok c
 abbrev pub minimising_by : ℕ → RangeValue → Result ℕ Reason → Result Pattern Reason
 minimising_by m l (Err r) = Err r
 minimising_by m l (Ok c) =
-    if is_pair l && nat_eq (greatest_integer l) m then Err reason.LeadAtCeiling
+    if is_pair_range l && nat_eq (greatest_integer l) m then Err reason.LeadAtCeiling
     else Ok (pattern.Minimising (greatest_integer l) c)
 
 abbrev pub minimising : ℕ → GrowthValue → RangeValue → Result Pattern Reason
@@ -223,7 +223,7 @@ body_pattern m R e x p u =
     if not (occurs x u) then Ok pattern.Constant
     else (if is_nested e x u then Err reason.Nested
     else (if is_unguarded e x u then Err reason.Unguarded
-    else by_guarding (guarding_of e x u) (by_form m R e x p (guarding_of e x u) (form_of e x u))))
+    else by_guarding (guarding_of e x u) (by_form m R e x p (guarding_of e x u) (evolution_form e x u))))
 
 -- the pattern of the `rep` or `share` at place p. Its first value isn't looked at
 abbrev pub pattern_of : ℕ → (ℕ → RangeValue) → ℕ → Term → Result Pattern Reason

@@ -12,7 +12,7 @@ use Rattle.growth_facts.specs.Growth.{Grows, growth_of}
 use Rattle.growth_facts.specs.Beside.{Shallow}
 use Rattle.fragment_check.specs.declared.kinds.Pattern.{Pattern}
 use Rattle.fragment_check.specs.declared.kinds.Pattern.TheVariants as pattern
-use Rattle.fragment_check.specs.Patterns.{is_pair}
+use Rattle.fragment_check.specs.Patterns.{is_pair_range}
 
 -- the variable of the binder at place q, of type int
 abbrev pub int_of : ℕ → Term
@@ -50,7 +50,7 @@ pub data HasPattern (m : ℕ) (R : ℕ → RangeValue) (e : Evolution) (x p : �
       → occurs x (Apply t op.MinHoodLoc (More h (More l NoMore))) ≡ true → occurs x l ≡ false
       → Shallow e x s (Apply t op.MinHoodLoc (More h (More l NoMore)))
       → growth_of m R e x (suc p) h ≡ Grows c → 1 ≤ c
-      → (is_pair (R (suc p + size h)) ≡ true → greatest_integer (R (suc p + size h)) ≡ m → ⊥)
+      → (is_pair_range (R (suc p + size h)) ≡ true → greatest_integer (R (suc p + size h)) ≡ m → ⊥)
       → HasPattern m R e x p s (Apply t op.MinHoodLoc (More h (More l NoMore)))
       (pattern.Minimising (greatest_integer (R (suc p + size h))) c)
   rising : (t u : ValueType) (h l own w : Term) (c : ℕ) → e ≡ ByRep

@@ -6,7 +6,7 @@ ghost use Rattle.fc_nodes.specs.Places.{StandsAt};
 ghost use Rattle.fc_nodes.specs.Program.{unfolding_of};
 ghost use Rattle.interval_facts.specs.Ranges.{range_value, AreRangesOf, range_of};
 ghost use Rattle.growth_facts.specs.Facts.{growth_value, IsEvolving, evolution_at};
-ghost use Rattle.fragment_check.specs.Patterns.{raising as raising_of, minimising as minimising_of, rising as rising_of, no_pattern as no_pattern_of, body_pattern as pattern_of_body, is_pair as is_pair_of, by_form, form_of};
+ghost use Rattle.fragment_check.specs.Patterns.{raising as raising_of, minimising as minimising_of, rising as rising_of, no_pattern as no_pattern_of, body_pattern as pattern_of_body, is_pair_range, by_form, evolution_form};
 ghost use Rattle.fragment_check.specs.Facts.{evolution_of};
 ghost use Rattle.fragment_check.specs.Verdicts.{pattern_at};
 
@@ -69,7 +69,7 @@ fn formed_pattern(
     requires evolution { evolution_at program.now.nodes own.place ≡ evolution_of own }
     requires stands { StandsAt program.now.nodes body }
     ensures { result ≡ by_form program.now.declared.ceiling (range_of (unfolding_of program.now))
-        (evolution_of own) own.place body guarding (form_of (evolution_of own) own.place
+        (evolution_of own) own.place body guarding (evolution_form (evolution_of own) own.place
         (term_at program.now.nodes body)) }
 {
     let ceiling = program.declared().ceiling;
@@ -127,7 +127,7 @@ fn raising(growth: Growth) -> Result<u32, Reason>
 }
 
 fn is_pair(range: &Range) -> bool
-    ensures { result ≡ is_pair_of (range_value range.now) }
+    ensures { result ≡ is_pair_range (range_value range.now) }
 {
     match range {
         Range::Pair(_, _) => true,

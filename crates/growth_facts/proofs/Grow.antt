@@ -11,13 +11,13 @@ use Rattle.fc_values.specs.Builtins.{local_value, is_hood, builtin_value}
 use Rattle.fc_values.specs.BuiltinTypes.{inner, inners, Takes, Lifts, HasRule}
 use Rattle.fc_values.specs.Positions.{argument_nth, arguments_nth}
 use Rattle.fc_values.proofs.BuiltinTyped.{builtin_typed, argument_fits}
-use Rattle.fc_nodes.specs.Terms.{Evolution, ByRep, ByShare, Term, Terms, Plain, Apply, Nbr, Evolve, If, Let, NoMore, More, type_of}
+use Rattle.fc_nodes.specs.Terms.{Evolution, ByRep, ByShare, Term, Terms, Plain, Apply, Nbr, Evolve, If, Let, NoMore, More, term_type}
 use Rattle.fc_nodes.specs.Typing.{types_of}
 use Rattle.interval_facts.specs.Ranges.{RangeValue, IntRange, BoolRange, PairRange, InRange, AllInRange, LiesIn}
 use Rattle.interval_facts.proofs.Pointwise.{Within, pointwise_nth}
 use Rattle.fc_nodes.specs.Variables.{is_own, occurs, occurs_in, is_heard}
 use Rattle.growth_facts.specs.Leads.{lead, leads, least_integer}
-use Rattle.growth_facts.specs.Growth.{is_rest, GrowthValue, Grows, Lacks, NodeFacts, only_if, on_one_side, raised, lesser_growth, op_growth, growth_apart, growth_heard, node_growth, growth_of, facts_in}
+use Rattle.growth_facts.specs.Growth.{is_heard_rest, GrowthValue, Grows, Lacks, NodeFacts, only_if, on_one_side, raised, lesser_growth, op_growth, growth_apart, growth_heard, node_growth, growth_of, facts_in}
 use Rattle.growth_facts.specs.Beside.{Beside, apart, heard, joined, BesideAll, no_more, one_more}
 use Rattle.growth_facts.proofs.Above.{AllAbove, op_above}
 use Rattle.growth_facts.proofs.Raised.{AllRaised, none_raised, one_raised, op_raised}
@@ -57,10 +57,10 @@ growth_without m rs e x p (Evolve t f a u) o = rw o refl
 growth_without m rs e x p (If t c u w) o = rw o refl
 growth_without m rs e x p (Let t a u) o = rw o refl
 
-by_heard : (m : ℕ) (rs : ℕ → RangeValue) (e : Evolution) (x p : ℕ) (h : Term) (other : GrowthValue) → is_heard e x h ≡ true → node_growth m rs e x p h other ≡ growth_heard p (leads (inner (type_of h)))
+by_heard : (m : ℕ) (rs : ℕ → RangeValue) (e : Evolution) (x p : ℕ) (h : Term) (other : GrowthValue) → is_heard e x h ≡ true → node_growth m rs e x p h other ≡ growth_heard p (leads (inner (term_type h)))
 by_heard m rs e x p h other o = let u = heard_uses e x h o in rw (u, o) refl
 
-pub growth_of_heard : (m : ℕ) (rs : ℕ → RangeValue) (e : Evolution) (x p : ℕ) (h : Term) → is_heard e x h ≡ true → growth_of m rs e x p h ≡ growth_heard p (leads (inner (type_of h)))
+pub growth_of_heard : (m : ℕ) (rs : ℕ → RangeValue) (e : Evolution) (x p : ℕ) (h : Term) → is_heard e x h ≡ true → growth_of m rs e x p h ≡ growth_heard p (leads (inner (term_type h)))
 growth_of_heard m rs e x p (Plain t l) o = by_heard m rs e x p (Plain t l) (Lacks p) o
 growth_of_heard m rs e x p (Apply t f xs) o = by_heard m rs e x p (Apply t f xs) (op_growth m p f (facts_in m rs e x (suc p) xs)) o
 growth_of_heard m rs e x p (Nbr t a) o = by_heard m rs e x p (Nbr t a) (Lacks p) o
@@ -73,7 +73,7 @@ leads_zero true p g q = cc
 leads_zero false p g q = absurd cc
 
 heard_zero : (m : ℕ) (rs : ℕ → RangeValue) (e : Evolution) (x p : ℕ) (h : Term) (g : ℕ) → is_heard e x h ≡ true → growth_of m rs e x p h ≡ Grows g → g ≡ 0
-heard_zero m rs e x p h g o q = leads_zero (leads (inner (type_of h))) p g (sym (growth_of_heard m rs e x p h o) ∙ q)
+heard_zero m rs e x p h g o q = leads_zero (leads (inner (term_type h))) p g (sym (growth_of_heard m rs e x p h o) ∙ q)
 
 not_heard : (e : Evolution) (x : ℕ) (t : ValueType) (o : Builtin) (xs : Terms) → is_heard e x (Apply t o xs) ≡ false
 not_heard ByRep x t o xs = refl
@@ -185,14 +185,14 @@ lifts_takes : (o : Builtin) (ts : List ValueType) (t : ValueType) → is_hood o 
 lifts_takes o ts t plain rule = let l : Lifts o ts t = rw plain at rule in (l.local, l.takes)
 
 module _ (m d : ℕ) (ds : List ℕ) (e : Evolution) (x : ℕ) (Near : AnyValue → AnyValue → Type 0) (Part : ℕ → Term → AnyValue → Type 0) (rs : ℕ → RangeValue) (rising : rises ds ≡ true)
-    (part : (p : ℕ) (h : Term) (w : AnyValue) → Part p h w → FitsOver m ds (type_of h) w × LiesIn (rs p) w) where
+    (part : (p : ℕ) (h : Term) (w : AnyValue) → Part p h w → FitsOver m ds (term_type h) w × LiesIn (rs p) w) where
   -- both values fit
   fitting : (o : Builtin) (ts : List ValueType) (t : ValueType) (vs : List AnyValue) (v : AnyValue) → HasRule o ts t → FitEachOver m ds ts vs → builtin_value o m d vs ≡ Some v → FitsOver m ds t v
   fitting o ts t vs v rule h q = let b = builtin_typed o m d ds ts t vs rule rising h in let q' = b.1 in let same : b.0 ≡ v = cc in subst (FitsOver m ds t) same b.2
 
   mutual
-    pub both_fit : {p : ℕ} {h : Term} {v w : AnyValue} → Beside m d ds e x Near Part p h v w → FitsOver m ds (type_of h) v × FitsOver m ds (type_of h) w
-    both_fit (apart {v} {w} p h o q k) = let f = (part p h w k).0 in (subst (FitsOver m ds (type_of h)) (sym q) f, f)
+    pub both_fit : {p : ℕ} {h : Term} {v w : AnyValue} → Beside m d ds e x Near Part p h v w → FitsOver m ds (term_type h) v × FitsOver m ds (term_type h) w
+    both_fit (apart {v} {w} p h o q k) = let f = (part p h w k).0 in (subst (FitsOver m ds (term_type h)) (sym q) f, f)
     both_fit (heard {v} {w} p h o n f f') = (f, f')
     both_fit (joined {v} {w} p t o xs vs ws rule u b q q') = let f = all_fit b in (fitting o (types_of xs) t vs v rule f.0 q, fitting o (types_of xs) t ws w rule f.1 q')
 
@@ -207,7 +207,7 @@ module _ (m d : ℕ) (ds : List ℕ) (e : Evolution) (x : ℕ) (Near : AnyValue 
     -- a part without x is at least its least
     low : {p : ℕ} {h : Term} {v w : AnyValue} → Beside m d ds e x Near Part p h v w → occurs x h ≡ false → (least_integer (rs p) ≤ lead (at v)) × (least_integer (rs p) ≤ lead (at w))
     low (apart {v} {w} p h o q z) n =
-        let f = part p h w z in let l = least_nth (rs p) w i f.1 (within_of m ds (type_of h) w i f.0 long) in (subst (λ u. least_integer (rs p) ≤ lead (at u)) (sym q) l, l)
+        let f = part p h w z in let l = least_nth (rs p) w i f.1 (within_of m ds (term_type h) w i f.0 long) in (subst (λ u. least_integer (rs p) ≤ lead (at u)) (sym q) l, l)
     low (heard p h o z f f') n = let u = heard_uses e x h o in absurd cc
     low (joined p t o xs vs ws rule u b q q') n = absurd cc
 
@@ -221,7 +221,7 @@ module _ (m d : ℕ) (ds : List ℕ) (e : Evolution) (x : ℕ) (Near : AnyValue 
     module _ (high : (v w : AnyValue) (t : ValueType) → Near v w → FitsOver m ds t v → FitsOver m ds t w → (k ≤ lead (at v)) × (k ≤ lead (at w))) where
       from_heard : {p : ℕ} {h : Term} {v w : AnyValue} → Beside m d ds e x Near Part p h v w → is_heard e x h ≡ true → (k ≤ lead (at v)) × (k ≤ lead (at w))
       from_heard (apart p h o q z) n = let u = heard_uses e x h n in absurd cc
-      from_heard (heard {v} {w} p h o z f f') n = high v w (type_of h) z f f'
+      from_heard (heard {v} {w} p h o z f f') n = high v w (term_type h) z f f'
       from_heard (joined p t o xs vs ws rule u b q q') n = absurd (apply_not_heard e x t o xs n)
 
       mutual
@@ -231,7 +231,7 @@ module _ (m d : ℕ) (ds : List ℕ) (e : Evolution) (x : ℕ) (Near : AnyValue 
             let l = low (apart {v = v} {w = w} p h o q z) o in
             let t = apart_low p (least_integer (rs p)) g (sym (growth_without m rs e x p h o) ∙ r) in
             let t0 = t.0 in let t1 = t.1 in (omega (arith, l.0, t0, t1), omega (arith, l.1, t0, t1))
-        above_law (heard {v} {w} p h o z f f') g r = let zero_is = heard_zero m rs e x p h g o r in let l = high v w (type_of h) z f f' in (omega (arith, zero_is, l.0), omega (arith, zero_is, l.1))
+        above_law (heard {v} {w} p h o z f f') g r = let zero_is = heard_zero m rs e x p h g o r in let l = high v w (term_type h) z f f' in (omega (arith, zero_is, l.0), omega (arith, zero_is, l.1))
         above_law (joined {v} {w} p t o xs vs ws rule u b q q') g r =
             let r' : op_growth m p o (facts_in m rs e x (suc p) xs) ≡ Grows g = sym (growth_of_builtin m rs e x p t o xs u) ∙ r in
             let plain = not_hood m p o (facts_in m rs e x (suc p) xs) g r' in
@@ -247,8 +247,8 @@ module _ (m d : ℕ) (ds : List ℕ) (e : Evolution) (x : ℕ) (Near : AnyValue 
         all_above (no_more p) = (tt, tt)
         all_above (one_more p t ts v w vs ws b bs) =
             let f = both_fit b in let r = all_above bs in (
-              (record { fits = argument_fits m ds (type_of t) v i f.0 long; apart = λ o. (low b o).0; grows = λ g q. (above_law b g q).0; heard = λ o. (from_heard b o).0 }, r.0),
-              (record { fits = argument_fits m ds (type_of t) w i f.1 long; apart = λ o. (low b o).1; grows = λ g q. (above_law b g q).1; heard = λ o. (from_heard b o).1 }, r.1),
+              (record { fits = argument_fits m ds (term_type t) v i f.0 long; apart = λ o. (low b o).0; grows = λ g q. (above_law b g q).0; heard = λ o. (from_heard b o).0 }, r.0),
+              (record { fits = argument_fits m ds (term_type t) w i f.1 long; apart = λ o. (low b o).1; grows = λ g q. (above_law b g q).1; heard = λ o. (from_heard b o).1 }, r.1),
             )
 
     module _ (same : (v w : AnyValue) (t : ValueType) → Near v w → FitsOver m ds t v → FitsOver m ds t w → at v ≡ at w) where
@@ -267,20 +267,20 @@ module _ (m d : ℕ) (ds : List ℕ) (e : Evolution) (x : ℕ) (Near : AnyValue 
 
       heard_same : {p : ℕ} {h : Term} {v w : AnyValue} → Beside m d ds e x Near Part p h v w → is_heard e x h ≡ true → at v ≡ at w
       heard_same (apart p h o q z) n = let u = heard_uses e x h n in absurd cc
-      heard_same (heard {v} {w} p h o z f f') n = same v w (type_of h) z f f'
+      heard_same (heard {v} {w} p h o z f f') n = same v w (term_type h) z f f'
       heard_same (joined p t o xs vs ws rule u b q q') n = absurd (apply_not_heard e x t o xs n)
 
-      rest_args : (o : Builtin) (xs : Terms) {p : ℕ} {vs ws : List AnyValue} (t : ValueType) → is_rest e x (Apply t o xs) ≡ true → BesideAll m d ds e x Near Part p xs vs ws → (is_hood o ≡ false) × (arguments_nth i vs ≡ arguments_nth i ws)
+      rest_args : (o : Builtin) (xs : Terms) {p : ℕ} {vs ws : List AnyValue} (t : ValueType) → is_heard_rest e x (Apply t o xs) ≡ true → BesideAll m d ds e x Near Part p xs vs ws → (is_hood o ≡ false) × (arguments_nth i vs ≡ arguments_nth i ws)
       rest_args op.Snd (More h NoMore) t r (one_more p h' ts v w vs ws b (no_more p')) = let z = heard_same b r in (refl, rw z refl)
       rest_args o xs t r b = absurd cc
 
-      rest_same : {p : ℕ} {h : Term} {v w : AnyValue} → Beside m d ds e x Near Part p h v w → is_rest e x h ≡ true → at v ≡ at w
+      rest_same : {p : ℕ} {h : Term} {v w : AnyValue} → Beside m d ds e x Near Part p h v w → is_heard_rest e x h ≡ true → at v ≡ at w
       rest_same (apart p h o q z) n = ap at q
-      rest_same (heard {v} {w} p h o z f f') n = same v w (type_of h) z f f'
+      rest_same (heard {v} {w} p h o z f f') n = same v w (term_type h) z f f'
       rest_same (joined {v} {w} p t o xs vs ws rule u b q q') n =
           let a = rest_args o xs t n b in let f = both_fit (joined {v = v} {w = w} p t o xs vs ws rule u b q q') in same_value t o vs ws v w a.0 f.0 f.1 a.1 q q'
 
-      fine_same : {p : ℕ} {h : Term} {v w : AnyValue} → Beside m d ds e x Near Part p h v w → (occurs x h ≡ false) ⊎ (((g : ℕ) × (growth_of m rs e x p h ≡ Grows g)) ⊎ ((is_heard e x h ≡ true) ⊎ (is_rest e x h ≡ true)))
+      fine_same : {p : ℕ} {h : Term} {v w : AnyValue} → Beside m d ds e x Near Part p h v w → (occurs x h ≡ false) ⊎ (((g : ℕ) × (growth_of m rs e x p h ≡ Grows g)) ⊎ ((is_heard e x h ≡ true) ⊎ (is_heard_rest e x h ≡ true)))
           → ((g : ℕ) → growth_of m rs e x p h ≡ Grows g → at v ≡ at w) → at v ≡ at w
       fine_same b (inl o) k = apart_same b o
       fine_same b (inr (inl g)) k = k g.0 g.1
@@ -291,7 +291,7 @@ module _ (m d : ℕ) (ds : List ℕ) (e : Evolution) (x : ℕ) (Near : AnyValue 
         -- where x is the same, what grows is the same
         pub same_law : {p : ℕ} {h : Term} {v w : AnyValue} → Beside m d ds e x Near Part p h v w → (g : ℕ) → growth_of m rs e x p h ≡ Grows g → at v ≡ at w
         same_law (apart p h o q z) g r = ap at q
-        same_law (heard {v} {w} p h o z f f') g r = same v w (type_of h) z f f'
+        same_law (heard {v} {w} p h o z f f') g r = same v w (term_type h) z f f'
         same_law (joined {v} {w} p t o xs vs ws rule u b q q') g r =
             let r' : op_growth m p o (facts_in m rs e x (suc p) xs) ≡ Grows g = sym (growth_of_builtin m rs e x p t o xs u) ∙ r in
             let f = both_fit (joined {v = v} {w = w} p t o xs vs ws rule u b q q') in
@@ -309,14 +309,14 @@ module _ (m d : ℕ) (ds : List ℕ) (e : Evolution) (x : ℕ) (Near : AnyValue 
 
       heard_raised : {p : ℕ} {h : Term} {v w : AnyValue} → Beside m d ds e x Near Part p h v w → is_heard e x h ≡ true → lead (at v) ≤ lead (at w)
       heard_raised (apart p h o q z) n = let u = heard_uses e x h n in absurd cc
-      heard_raised (heard {v} {w} p h o z f f') n = more v w (type_of h) z f f'
+      heard_raised (heard {v} {w} p h o z f f') n = more v w (term_type h) z f f'
       heard_raised (joined p t o xs vs ws rule u b q q') n = absurd (apply_not_heard e x t o xs n)
 
       mutual
         -- where x is led by more, what grows is led by no less
         pub raised_law : {p : ℕ} {h : Term} {v w : AnyValue} → Beside m d ds e x Near Part p h v w → (g : ℕ) → growth_of m rs e x p h ≡ Grows g → lead (at v) ≤ lead (at w)
         raised_law (apart p h o q z) g r = let l = ap at q in let k = ap lead l in omega (arith, k)
-        raised_law (heard {v} {w} p h o z f f') g r = more v w (type_of h) z f f'
+        raised_law (heard {v} {w} p h o z f f') g r = more v w (term_type h) z f f'
         raised_law (joined {v} {w} p t o xs vs ws rule u b q q') g r =
             let r' : op_growth m p o (facts_in m rs e x (suc p) xs) ≡ Grows g = sym (growth_of_builtin m rs e x p t o xs u) ∙ r in
             let plain = not_hood m p o (facts_in m rs e x (suc p) xs) g r' in
@@ -331,8 +331,8 @@ module _ (m d : ℕ) (ds : List ℕ) (e : Evolution) (x : ℕ) (Near : AnyValue 
         all_raised (one_more p t ts v w vs ws b bs) =
             let f = both_fit b in
             one_raised _ _ _ _ _ _ _ _ (record {
-              first = argument_fits m ds (type_of t) v i f.0 long;
-              second = argument_fits m ds (type_of t) w i f.1 long;
+              first = argument_fits m ds (term_type t) v i f.0 long;
+              second = argument_fits m ds (term_type t) w i f.1 long;
               apart = λ o. apart_raised b o;
               grows = λ g q. raised_law b g q;
               heard = λ o. heard_raised b o;

@@ -4,7 +4,7 @@ use Rattle.fc_values.specs.declared.builtins.Builtin.TheVariants as op
 use Rattle.fc_values.specs.Types.{ValueType}
 use Rattle.fc_values.specs.BuiltinTypes.{inner}
 use Rattle.fc_nodes.specs.declared.nodes.Node.{Node}
-use Rattle.fc_nodes.specs.Terms.{Evolution, ByRep, ByShare, Term, Terms, Plain, Apply, Nbr, Evolve, If, Let, NoMore, More, type_of, size, Sort, OfLeaf, OfApply, OfNbr, OfEvolve, OfIf, OfLet, term_at, HasNode, Laid, AllLaid, places}
+use Rattle.fc_nodes.specs.Terms.{Evolution, ByRep, ByShare, Term, Terms, Plain, Apply, Nbr, Evolve, If, Let, NoMore, More, term_type, size, Sort, OfLeaf, OfApply, OfNbr, OfEvolve, OfIf, OfLet, term_at, HasNode, Laid, AllLaid, places}
 use Rattle.fc_nodes.specs.Places.{StandsAt}
 use Rattle.fc_nodes.specs.Program.{Program, unfolding_of}
 use Rattle.fc_nodes.proofs.Places.{AllAbove}
@@ -12,7 +12,7 @@ use Rattle.fc_nodes.proofs.Kids.{laid_term, kids_of, kids_are}
 use Rattle.interval_facts.specs.Ranges.{RangeValue, range_of}
 use Rattle.fc_nodes.specs.Variables.{is_variable, occurs, occurs_in, is_own, is_heard}
 use Rattle.growth_facts.specs.Leads.{is_integer, leads, least_integer}
-use Rattle.growth_facts.specs.Growth.{is_rest, GrowthValue, NodeFacts, growth_by, growth_apart, growth_heard, node_growth, growth_of, facts_in, facts_of}
+use Rattle.growth_facts.specs.Growth.{is_heard_rest, GrowthValue, NodeFacts, growth_by, growth_apart, growth_heard, node_growth, growth_of, facts_in, facts_of}
 use Rattle.growth_facts.specs.Facts.{any_uses, heard_sort, rest_sort, sort_growth, joined, facts_at}
 use Rattle.fc_nodes.specs.Sorts.{is_own_sort}
 
@@ -50,7 +50,7 @@ module _ (m : ℕ) (rs : ℕ → RangeValue) (e : Evolution) (x : ℕ) where
   own_is (If t c a b) = refl
   own_is (Let t a b) = refl
 
-  rest_is : (p : ℕ) (u : Term) → is_rest e x u ≡ rest_sort (term_sort u) (facts_in m rs e x (suc p) (kids_of u))
+  rest_is : (p : ℕ) (u : Term) → is_heard_rest e x u ≡ rest_sort (term_sort u) (facts_in m rs e x (suc p) (kids_of u))
   rest_is p (Plain t l) = refl
   rest_is p (Apply t op.Snd NoMore) = refl
   rest_is p (Apply t op.Snd (More h NoMore)) = refl
@@ -97,7 +97,7 @@ made b o h r i l lo g = record {
 
 -- the facts of a term from those of its kids
 pub joined_is : (m : ℕ) (rs : ℕ → RangeValue) (e : Evolution) (x p : ℕ) (u : Term)
-    → facts_of m rs e x p u ≡ joined m e x p (term_sort u) (inner (type_of u)) (least_integer (rs p)) (facts_in m rs e x (suc p) (kids_of u))
+    → facts_of m rs e x p u ≡ joined m e x p (term_sort u) (inner (term_type u)) (least_integer (rs p)) (facts_in m rs e x (suc p) (kids_of u))
 joined_is m rs e x p u =
     let fs = facts_in m rs e x (suc p) (kids_of u) in
     let q1 = uses_is m rs e x p u in
@@ -105,15 +105,15 @@ joined_is m rs e x p u =
     let q3 = heard_is m rs e x p u in
     let q4 = rest_is m rs e x p u in
     let q5 = growth_is m rs e x p u in
-    with_all (occurs x u) (is_own_sort x (term_sort u) || any_uses fs) (is_own x u) (is_own_sort x (term_sort u)) (is_heard e x u) (heard_sort e x (term_sort u) fs) (is_rest e x u) (rest_sort (term_sort u) fs)
+    with_all (occurs x u) (is_own_sort x (term_sort u) || any_uses fs) (is_own x u) (is_own_sort x (term_sort u)) (is_heard e x u) (heard_sort e x (term_sort u) fs) (is_heard_rest e x u) (rest_sort (term_sort u) fs)
     (growth_of m rs e x p u) (sort_growth m p (term_sort u) fs) q1 q2 q3 q4 q5
   where
-    with_all : (b b' o o' h h' r r' : Bool) (g g' : GrowthValue) → b ≡ b' → o ≡ o' → h ≡ h' → r ≡ r' → g ≡ growth_by b h (growth_apart m p (least_integer (rs p))) (growth_heard p (leads (inner (type_of u)))) g'
-        → made b o h r (is_integer (inner (type_of u))) (leads (inner (type_of u))) (least_integer (rs p)) g
-        ≡ made b' o' h' r' (is_integer (inner (type_of u))) (leads (inner (type_of u))) (least_integer (rs p)) (growth_by b' h' (growth_apart m p (least_integer (rs p))) (growth_heard p (leads (inner (type_of u)))) g')
+    with_all : (b b' o o' h h' r r' : Bool) (g g' : GrowthValue) → b ≡ b' → o ≡ o' → h ≡ h' → r ≡ r' → g ≡ growth_by b h (growth_apart m p (least_integer (rs p))) (growth_heard p (leads (inner (term_type u)))) g'
+        → made b o h r (is_integer (inner (term_type u))) (leads (inner (term_type u))) (least_integer (rs p)) g
+        ≡ made b' o' h' r' (is_integer (inner (term_type u))) (leads (inner (term_type u))) (least_integer (rs p)) (growth_by b' h' (growth_apart m p (least_integer (rs p))) (growth_heard p (leads (inner (term_type u)))) g')
     with_all b b' o o' h h' r r' g g' i j k l n = rw (n, i, j, k, l) refl
 
-pub sort_is : (ns : List Node) (p : ℕ) (u : Term) (s : Sort) (t : ValueType) (ks : List ℕ) → Laid ns p u → HasNode ns p s t ks → (term_sort u ≡ s) × (type_of u ≡ t)
+pub sort_is : (ns : List Node) (p : ℕ) (u : Term) (s : Sort) (t : ValueType) (ks : List ℕ) → Laid ns p u → HasNode ns p s t ks → (term_sort u ≡ s) × (term_type u ≡ t)
 sort_is ns p (Plain t l) s t' ks h k = (cc, cc)
 sort_is ns p (Apply t o xs) s t' ks h k = let l = h.0 in (cc, cc)
 sort_is ns p (Nbr t a) s t' ks h k = let l = h.0 in (cc, cc)
@@ -141,7 +141,7 @@ node_joined P ab e x p st s t ks h =
     let lo = least_integer (range_of (unfolding_of P) p) in
     let by = facts_by_place P ab e x (suc p) (kids_of (term_at P.nodes p)) i.laid ∙ ap (facts_at P e x) (sym i.stand_at) in
     joined_is P.declared.ceiling (range_of (unfolding_of P)) e x p (term_at P.nodes p)
-    ∙ ap (λ y. joined P.declared.ceiling e x p y (inner (type_of (term_at P.nodes p))) lo (facts_in P.declared.ceiling (range_of (unfolding_of P)) e x (suc p) (kids_of (term_at P.nodes p)))) z.0
+    ∙ ap (λ y. joined P.declared.ceiling e x p y (inner (term_type (term_at P.nodes p))) lo (facts_in P.declared.ceiling (range_of (unfolding_of P)) e x (suc p) (kids_of (term_at P.nodes p)))) z.0
     ∙ ap (λ y. joined P.declared.ceiling e x p s (inner y) lo (facts_in P.declared.ceiling (range_of (unfolding_of P)) e x (suc p) (kids_of (term_at P.nodes p)))) z.1
     ∙ ap (joined P.declared.ceiling e x p s (inner t) lo) by
 

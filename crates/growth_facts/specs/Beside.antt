@@ -7,7 +7,7 @@ use Rattle.fc_values.specs.Values.{LocalValue}
 use Rattle.fc_values.specs.Fields.{Entries, AnyValue, ValueLocal, ValueField, FitsOver}
 use Rattle.fc_values.specs.Builtins.{builtin_value}
 use Rattle.fc_nodes.specs.Typing.{types_of}
-use Rattle.fc_nodes.specs.Terms.{Evolution, Term, Terms, Plain, Apply, Nbr, Evolve, If, Let, NoMore, More, type_of, size}
+use Rattle.fc_nodes.specs.Terms.{Evolution, Term, Terms, Plain, Apply, Nbr, Evolve, If, Let, NoMore, More, term_type, size}
 use Rattle.interval_facts.specs.Ranges.{RangeValue, LiesIn}
 use Rattle.fc_nodes.specs.Variables.{occurs, occurs_in, is_variable, is_heard}
 
@@ -32,7 +32,7 @@ mutual
     apart : {v w : AnyValue} (p : ℕ) (h : Term) → occurs x h ≡ false → v ≡ w → Part p h w
         → Beside m d ds e x Near Part p h v w
     heard : {v w : AnyValue} (p : ℕ) (h : Term) → is_heard e x h ≡ true → Near v w
-        → FitsOver m ds (type_of h) v → FitsOver m ds (type_of h) w
+        → FitsOver m ds (term_type h) v → FitsOver m ds (term_type h) w
         → Beside m d ds e x Near Part p h v w
     joined : {v w : AnyValue} (p : ℕ) (t : ValueType) (o : Builtin) (xs : Terms) (vs ws : List AnyValue)
         → HasRule o (types_of xs) t
@@ -69,4 +69,4 @@ Hears a b = FieldPair (λ n v w. (v ≡ a n) × (w ≡ b n))
 
 -- a part fits its type, and lies in its range
 abbrev pub IsPart : ℕ → List ℕ → (ℕ → RangeValue) → ℕ → Term → AnyValue → Type 0
-IsPart m ds rs p h w = FitsOver m ds (type_of h) w × LiesIn (rs p) w
+IsPart m ds rs p h w = FitsOver m ds (term_type h) w × LiesIn (rs p) w

@@ -4,15 +4,15 @@ use Rattle.std.specs.Prelude.{ℕ, suc, Bool, true, false, not, ◌+◌, ◌&&�
 use Rattle.fc_values.specs.declared.builtins.Builtin.{Builtin}
 use Rattle.fc_values.specs.declared.builtins.Builtin.TheVariants as op
 use Rattle.fc_values.specs.BuiltinTypes.{inner}
-use Rattle.fc_nodes.specs.Terms.{Evolution, Term, Terms, Plain, Apply, Nbr, Evolve, If, Let, NoMore, More, type_of, size}
+use Rattle.fc_nodes.specs.Terms.{Evolution, Term, Terms, Plain, Apply, Nbr, Evolve, If, Let, NoMore, More, term_type, size}
 use Rattle.interval_facts.specs.Ranges.{RangeValue}
 use Rattle.fc_nodes.specs.Variables.{occurs, is_own, is_heard}
 use Rattle.growth_facts.specs.Leads.{is_integer, leads, least_integer}
 
 -- whether a term is the second component of what is heard
-abbrev pub is_rest : Evolution → ℕ → Term → Bool
-is_rest e x (Apply t op.Snd (More h NoMore)) = is_heard e x h
-is_rest e x _ = false
+abbrev pub is_heard_rest : Evolution → ℕ → Term → Bool
+is_heard_rest e x (Apply t op.Snd (More h NoMore)) = is_heard e x h
+is_heard_rest e x _ = false
 
 -- a growth, or the place of the node that has none
 pub data GrowthValue : Type 0 where
@@ -89,7 +89,7 @@ growth_heard p leads = only_if leads p (Grows 0)
 abbrev pub node_growth : ℕ → (ℕ → RangeValue) → Evolution → ℕ → ℕ → Term → GrowthValue → GrowthValue
 node_growth ceiling rs e x p t other =
     growth_by (occurs x t) (is_heard e x t) (growth_apart ceiling p (least_integer (rs p)))
-    (growth_heard p (leads (inner (type_of t)))) other
+    (growth_heard p (leads (inner (term_type t)))) other
 
 -- the facts of a term at a place, with its growth
 abbrev pub facts_with : (ℕ → RangeValue) → Evolution → ℕ → ℕ → Term → GrowthValue → NodeFacts
@@ -97,9 +97,9 @@ facts_with rs e x p t g = record {
   uses = occurs x t;
   own = is_own x t;
   heard = is_heard e x t;
-  rest = is_rest e x t;
-  integer = is_integer (inner (type_of t));
-  leads = leads (inner (type_of t));
+  rest = is_heard_rest e x t;
+  integer = is_integer (inner (term_type t));
+  leads = leads (inner (term_type t));
   least = least_integer (rs p);
   growth = g;
 }

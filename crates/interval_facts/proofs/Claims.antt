@@ -10,13 +10,13 @@ use Rattle.fc_values.specs.Builtins.{is_hood, hood_value, local_value, builtin_v
 use Rattle.fc_values.specs.BuiltinTypes.{inner, inners, rule_by, HasRule}
 use Rattle.fc_values.specs.Positions.{argument_nth, arguments_nth}
 use Rattle.fc_values.proofs.BuiltinTyped.{arguments_fit}
-use Rattle.fc_nodes.specs.Terms.{Leaf, Literal, Variable, Sense, Uid, NbrLink, Evolution, ByRep, ByShare, Term, Terms, Plain, Apply, Nbr, Evolve, If, Let, NoMore, More, type_of, size}
+use Rattle.fc_nodes.specs.Terms.{Leaf, Literal, Variable, Sense, Uid, NbrLink, Evolution, ByRep, ByShare, Term, Terms, Plain, Apply, Nbr, Evolve, If, Let, NoMore, More, term_type, size}
 use Rattle.fc_nodes.specs.Typing.{Scope, type_at, evolving_type, types_of, LeafHasType, HasType, HaveTypes}
 use Rattle.alignment.specs.Environments.{same_truth}
 use Rattle.topology.specs.Networks.{Network, IsNetwork, inputs_in}
-use Rattle.topology.specs.Nearby.{near_numbers}
+use Rattle.topology.specs.Nearby.{neighbour_numbers}
 use Rattle.topology.proofs.Lemmas.{inputs_fit}
-use Rattle.interval_facts.specs.Ranges.{RangeValue, IntRange, InRange, AllInRange, LiesIn, full, hull, builtin_range, Bounds, bound_at, literal_range, leaf_range, term_range, term_ranges, node_ranges, all_node_ranges}
+use Rattle.interval_facts.specs.Ranges.{RangeValue, IntRange, InRange, AllInRange, LiesIn, full, hull, builtin_range, Bounds, binding_range, literal_range, leaf_range, term_range, term_ranges, node_ranges, all_node_ranges}
 use Rattle.interval_facts.specs.Solutions.{Devices, In, ValueMap, ValueMaps, bind, near_among, around, FitsOn, local_map, evolved, where_is, at_device, LeafIs, Solves, SolveAll}
 use Rattle.interval_facts.specs.Claims.{MapLiesIn, InRanges, AllInRanges}
 use Rattle.interval_facts.proofs.Orders.{in_full}
@@ -46,14 +46,14 @@ bound_holds D p r G bs V g h n s e d i = by_test (nat_eq p n) e
     by_test true e = let same : r ≡ s = cc in subst (λ x. LiesIn x (G d)) same (g d i)
     by_test false e = h n s e d i
 
-is_found : (other : RangeValue) (n : ℕ) (t : ValueType) (bs : Scope) (cs : Bounds) → type_at n bs ≡ Some t → BoundsFit bs cs → found n cs ≡ Some (bound_at other n cs)
+is_found : (other : RangeValue) (n : ℕ) (t : ValueType) (bs : Scope) (cs : Bounds) → type_at n bs ≡ Some t → BoundsFit bs cs → found n cs ≡ Some (binding_range other n cs)
 is_found other n t [] [] e h = absurd cc
 is_found other n t [] (c ∷ cs) e h = absurd h
 is_found other n t (b ∷ bs) [] e h = absurd h
 is_found other n t (b ∷ bs) (c ∷ cs) e h = by_test (nat_eq c.0 n) refl (λ k. is_found other n t bs cs k h.2)
   where
-    by_test : (own : Bool) → nat_eq c.0 n ≡ own → (type_at n bs ≡ Some t → found n cs ≡ Some (bound_at other n cs)) →
-        (if own then Some c.1 else found n cs) ≡ Some (if own then c.1 else bound_at other n cs)
+    by_test : (own : Bool) → nat_eq c.0 n ≡ own → (type_at n bs ≡ Some t → found n cs ≡ Some (binding_range other n cs)) →
+        (if own then Some c.1 else found n cs) ≡ Some (if own then c.1 else binding_range other n cs)
     by_test true i f = refl
     by_test false i f = let j : nat_eq b.0 n ≡ false = rw (sym h.0) at i in f (rw j at e)
 
@@ -73,7 +73,7 @@ literal_lies (BoolValue b) = tt
 literal_lies (PairValue a b) = (literal_lies a, literal_lies b)
 
 -- a solution fits its type
-pub fits_of : (N : Network) (t : Term) (p : ℕ) (D : Devices) (V : ValueMaps) (F : ValueMap) → Solves N p t D V F → FitsOn N D (type_of t) F
+pub fits_of : (N : Network) (t : Term) (p : ℕ) (D : Devices) (V : ValueMaps) (F : ValueMap) → Solves N p t D V F → FitsOn N D (term_type t) F
 fits_of N (Plain t l) p D V F s = s.0
 fits_of N (Apply t o xs) p D V F s = s.0
 fits_of N (Nbr t a) p D V F s = s.0
@@ -89,7 +89,7 @@ module _ (N : Network) (net : IsNetwork N) (metric : N.declared.least ≤ N.decl
       (d : ℕ) → In D d → (v : AnyValue) → LeafIs N D l V d v → LiesIn (leaf_range N.declared cs t l) v
   leaf_lies t (Literal w) p bs cs D V F live ty fit h d i v e = lies_as _ e (literal_lies w)
   leaf_lies t (Variable n) p bs cs D V F live ty fit h d i v e =
-      lies_as _ e (restricted_lies d (near_numbers (near_among N D d)) (bound_at (full M (inner t)) n cs) (V n d) (h n (bound_at (full M (inner t)) n cs) (is_found (full M (inner t)) n t bs cs ty fit) d i))
+      lies_as _ e (restricted_lies d (neighbour_numbers (near_among N D d)) (binding_range (full M (inner t)) n cs) (V n d) (h n (binding_range (full M (inner t)) n cs) (is_found (full M (inner t)) n t bs cs ty fit) d i))
   leaf_lies t (Sense j) p bs cs D V F live ty fit h d i v e =
       lies_as _ e.2 (sense_lies (full M (inner t)) N.declared.inputs (inputs_in d N.devices) j e.0 (inputs_fit N.declared N.devices d net.devices (live d i)) e.1)
   leaf_lies t Uid p bs cs D V F live ty fit h d i v e = lies_as (IntRange 0 M) e (omega arith, omega arith)
@@ -215,12 +215,12 @@ module _ (N : Network) (net : IsNetwork N) (metric : N.declared.least ≤ N.decl
       where
         by_truth : (d : ℕ) → In D d → (b : Bool) → s.1 d ≡ b → (In (where_is true D s.1) d → LiesIn (term_range N.declared cs (suc p + size c) u) (F d)) →
             (In (where_is false D s.1) d → LiesIn (term_range N.declared cs (suc p + size c + size u) w) (F d)) →
-            HasForm (inner (type_of u)) (term_range N.declared cs (suc p + size c) u) → HasForm (inner (type_of u)) (term_range N.declared cs (suc p + size c + size u) w) →
+            HasForm (inner (term_type u)) (term_range N.declared cs (suc p + size c) u) → HasForm (inner (term_type u)) (term_range N.declared cs (suc p + size c + size u) w) →
             LiesIn (term_range N.declared cs p (If t c u w)) (F d)
-        by_truth d i true e f g x y = hull_lies_first (inner (type_of u)) _ _ (F d) x y (f (branch_in true D s.1 d i e))
-        by_truth d i false e f g x y = hull_lies_second (inner (type_of u)) _ _ (F d) x y (g (branch_in false D s.1 d i e))
+        by_truth d i true e f g x y = hull_lies_first (inner (term_type u)) _ _ (F d) x y (f (branch_in true D s.1 d i e))
+        by_truth d i false e f g x y = hull_lies_second (inner (term_type u)) _ _ (F d) x y (g (branch_in false D s.1 d i e))
     term_lies (Let t a u) p bs cs D V F live ty fit h s =
-        term_lies u (suc p + size a) ((p, type_of a) ∷ bs) ((p, term_range N.declared cs (suc p) a) ∷ cs) D (bind p s.1 V) F live ty.2
+        term_lies u (suc p + size a) ((p, term_type a) ∷ bs) ((p, term_range N.declared cs (suc p) a) ∷ cs) D (bind p s.1 V) F live ty.2
         (refl, range_form N.declared a bs cs (suc p) ty.1 fit, fit)
         (bound_holds D p (term_range N.declared cs (suc p) a) s.1 cs V (term_lies a (suc p) bs cs D V s.1 live ty.1 fit h s.2) h) s.3
 
@@ -263,7 +263,7 @@ module _ (N : Network) (net : IsNetwork N) (metric : N.declared.least ≤ N.decl
         let second = shows_second rs (suc p) (size a) (node_ranges N.declared cs (suc p) a) _ (as_many N.declared a cs (suc p)) k.1 in (
           lies_shown (rs p) _ D F k.0 (term_lies (Let t a u) p bs cs D V F live ty fit h s),
           in_ranges rs a (suc p) bs cs D V s.1 live ty.1 fit h s.2 first,
-          in_ranges rs u (suc p + size a) ((p, type_of a) ∷ bs) ((p, term_range N.declared cs (suc p) a) ∷ cs) D (bind p s.1 V) F live ty.2
+          in_ranges rs u (suc p + size a) ((p, term_type a) ∷ bs) ((p, term_range N.declared cs (suc p) a) ∷ cs) D (bind p s.1 V) F live ty.2
               (refl, range_form N.declared a bs cs (suc p) ty.1 fit, fit)
               (bound_holds D p (term_range N.declared cs (suc p) a) s.1 cs V (term_lies a (suc p) bs cs D V s.1 live ty.1 fit h s.2) h) s.3 second,
         )

@@ -8,9 +8,9 @@ use Rattle.fc_values.specs.Types.{LocalType, IntType, BoolType, PairType, ValueT
 use Rattle.fc_values.specs.Values.{LocalValue, IntValue, BoolValue, PairValue}
 use Rattle.fc_values.specs.Builtins.{is_hood}
 use Rattle.fc_values.specs.BuiltinTypes.{Takes, takes_add, takes_sub, takes_mul, takes_rise, takes_min, takes_max, takes_less, takes_equal, takes_and, takes_or, takes_not, takes_mux, takes_pair, takes_fst, takes_snd, Folds, folds_min, folds_max, folds_sum, folds_any, folds_all, inner, inners, has_field, lifted, rule_by}
-use Rattle.fc_nodes.specs.Terms.{Leaf, Literal, Variable, Sense, Uid, NbrLink, ByRep, ByShare, Term, Terms, Plain, Apply, Nbr, Evolve, If, Let, NoMore, More, type_of, size}
+use Rattle.fc_nodes.specs.Terms.{Leaf, Literal, Variable, Sense, Uid, NbrLink, ByRep, ByShare, Term, Terms, Plain, Apply, Nbr, Evolve, If, Let, NoMore, More, term_type, size}
 use Rattle.fc_nodes.specs.Typing.{Scope, type_at, types_of, HasType, HaveTypes, LeafHasType}
-use Rattle.interval_facts.specs.Ranges.{RangeValue, IntRange, BoolRange, PairRange, InRange, full, hull, least_range, greatest_range, least_hood, greatest_hood, builtin_range, Bounds, bound_at, input_range, sense_range, leaf_range, term_range, term_ranges}
+use Rattle.interval_facts.specs.Ranges.{RangeValue, IntRange, BoolRange, PairRange, InRange, full, hull, least_range, greatest_range, least_hood, greatest_hood, builtin_range, Bounds, binding_range, input_range, sense_range, leaf_range, term_range, term_ranges}
 pub use Rattle.interval_facts.specs.Scopes.{HasForm, HaveForms, BoundsFit}
 
 -- two ranges of one type
@@ -120,13 +120,13 @@ module _ (m : ℕ) (other : RangeValue) where
       let e : inner t ≡ rule.local = ap inner rule.value ∙ inner_lifted (has_field ts) rule.local in
       subst (λ u. HasForm u (builtin_range m other o rs)) (sym e) (operator_form o (inners ts) rule.local rule.takes rs h)
 
-bound_form : (other : RangeValue) (n : ℕ) (t : ValueType) (bs : Scope) (cs : Bounds) → type_at n bs ≡ Some t → BoundsFit bs cs → HasForm (inner t) (bound_at other n cs)
+bound_form : (other : RangeValue) (n : ℕ) (t : ValueType) (bs : Scope) (cs : Bounds) → type_at n bs ≡ Some t → BoundsFit bs cs → HasForm (inner t) (binding_range other n cs)
 bound_form other n t [] [] e h = absurd cc
 bound_form other n t [] (c ∷ cs) e h = absurd h
 bound_form other n t (b ∷ bs) [] e h = absurd h
 bound_form other n t (b ∷ bs) (c ∷ cs) e h = by_test (nat_eq b.0 n) refl e (λ k. bound_form other n t bs cs k h.2)
   where
-    by_test : (own : Bool) → nat_eq b.0 n ≡ own → (if own then Some b.1 else type_at n bs) ≡ Some t → (type_at n bs ≡ Some t → HasForm (inner t) (bound_at other n cs)) → HasForm (inner t) (if nat_eq c.0 n then c.1 else bound_at other n cs)
+    by_test : (own : Bool) → nat_eq b.0 n ≡ own → (if own then Some b.1 else type_at n bs) ≡ Some t → (type_at n bs ≡ Some t → HasForm (inner t) (binding_range other n cs)) → HasForm (inner t) (if nat_eq c.0 n then c.1 else binding_range other n cs)
     by_test true i e k = let j : nat_eq c.0 n ≡ true = rw h.0 at i in let same : b.1 ≡ t = cc in rw j (subst (λ u. HasForm (inner u) c.1) same h.1)
     by_test false i e k = let j : nat_eq c.0 n ≡ false = rw h.0 at i in rw j (k e)
 
@@ -149,7 +149,7 @@ leaf_form D bs cs t NbrLink h b = rw h tt
 
 module _ (D : Declarations) where
   mutual
-    pub range_form : (t : Term) (bs : Scope) (cs : Bounds) (p : ℕ) → HasType D bs p t → BoundsFit bs cs → HasForm (inner (type_of t)) (term_range D cs p t)
+    pub range_form : (t : Term) (bs : Scope) (cs : Bounds) (p : ℕ) → HasType D bs p t → BoundsFit bs cs → HasForm (inner (term_type t)) (term_range D cs p t)
     range_form (Plain t l) bs cs p h b = leaf_form D bs cs t l h b
     range_form (Apply t o xs) bs cs p h b = builtin_form D.ceiling (full D.ceiling (inner t)) (is_hood o) o (types_of xs) t h.0 (term_ranges D cs (suc p) xs) (ranges_form xs bs cs (suc p) h.1 b)
     range_form (Nbr t a) bs cs p h b = subst (λ z. HasForm z (term_range D cs (suc p) a)) (ap inner h.2 ∙ sym (ap inner h.1)) (range_form a bs cs (suc p) h.3 b)
@@ -170,7 +170,7 @@ module _ (D : Declarations) where
     range_form (Let t a u) bs cs p h b =
         let r = range_form a bs cs (suc p) h.1 b in
         subst (λ z. HasForm (inner z) (term_range D ((p, term_range D cs (suc p) a) ∷ cs) (suc p + size a) u)) (sym h.0)
-        (range_form u ((p, type_of a) ∷ bs) ((p, term_range D cs (suc p) a) ∷ cs) (suc p + size a) h.2 (refl, r, b))
+        (range_form u ((p, term_type a) ∷ bs) ((p, term_range D cs (suc p) a) ∷ cs) (suc p + size a) h.2 (refl, r, b))
 
     pub ranges_form : (xs : Terms) (bs : Scope) (cs : Bounds) (p : ℕ) → HaveTypes D bs p xs → BoundsFit bs cs → HaveForms (inners (types_of xs)) (term_ranges D cs p xs)
     ranges_form NoMore bs cs p h b = tt

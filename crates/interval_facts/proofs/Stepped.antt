@@ -6,12 +6,12 @@ use Rattle.fc_values.specs.declared.builtins.Builtin.{Builtin}
 use Rattle.fc_values.specs.Types.{LocalType, ValueType, TypeLocal, TypeField}
 use Rattle.fc_values.specs.Builtins.{is_hood}
 use Rattle.fc_values.specs.BuiltinTypes.{inner, inners, Takes, takes_add, takes_sub, takes_mul, takes_rise, takes_min, takes_max, takes_less, takes_equal, takes_and, takes_or, takes_not, takes_mux, takes_pair, takes_fst, takes_snd, Folds, folds_min, folds_max, folds_sum, folds_any, folds_all, rule_by, arity}
-use Rattle.fc_nodes.specs.Terms.{Leaf, Literal, Variable, Sense, Uid, NbrLink, Evolution, ByRep, ByShare, Term, Terms, Plain, Apply, Nbr, Evolve, If, Let, NoMore, More, type_of, size, sizes, Sort, OfLeaf, OfApply, OfNbr, OfEvolve, OfIf, OfLet, Has, view_at, HasNode, Laid, AllLaid, places, term_at}
+use Rattle.fc_nodes.specs.Terms.{Leaf, Literal, Variable, Sense, Uid, NbrLink, Evolution, ByRep, ByShare, Term, Terms, Plain, Apply, Nbr, Evolve, If, Let, NoMore, More, term_type, size, sizes, Sort, OfLeaf, OfApply, OfNbr, OfEvolve, OfIf, OfLet, Has, view_at, HasNode, Laid, AllLaid, places, term_at}
 use Rattle.fc_nodes.specs.Typing.{Scope, type_at, types_of, HasType, HaveTypes}
 use Rattle.fc_nodes.specs.Program.{Program, unfolding_of, IsProgram}
 use Rattle.fc_nodes.proofs.Places.{AllAbove, formed_above}
 use Rattle.fc_nodes.proofs.Kids.{laid_term}
-use Rattle.interval_facts.specs.Ranges.{RangeValue, full, hull, builtin_range, Bounds, bound_at, leaf_range, term_range, term_ranges, node_ranges, all_node_ranges, ranges_of}
+use Rattle.interval_facts.specs.Ranges.{RangeValue, full, hull, builtin_range, Bounds, binding_range, leaf_range, term_range, term_ranges, node_ranges, all_node_ranges, ranges_of}
 use Rattle.interval_facts.specs.Picks.{ranges_at}
 use Rattle.interval_facts.specs.Steps.{range_in, variable_range, leaf_step, step_range, kids_taken, LeafIsBound, IsBound}
 use Rattle.interval_facts.proofs.Tables.{Shows, shows_first, shows_second, shows_itself, as_many}
@@ -104,15 +104,15 @@ module _ (P : Program) (ab : AllAbove P.nodes) (rs : List RangeValue) where
   binders_later p q (b ∷ bs) (c ∷ cs) l h = let k = h.2 in (h.0, h.1, omega (arith, k, l), binders_later p q bs cs l h.3)
 
   variable_is : (other : RangeValue) (n p : ℕ) (t : ValueType) (bs : Scope) (cs : Bounds) → type_at n bs ≡ Some t → BindersAre p bs cs →
-      (bound_at other n cs ≡ variable_range P.declared rs n (view_at P.nodes n)) × (suc n + size (term_at P.nodes (suc n)) ≤ p)
+      (binding_range other n cs ≡ variable_range P.declared rs n (view_at P.nodes n)) × (suc n + size (term_at P.nodes (suc n)) ≤ p)
   variable_is other n p t [] [] e h = absurd cc
   variable_is other n p t [] (c ∷ cs) e h = absurd h
   variable_is other n p t (b ∷ bs) [] e h = absurd h
   variable_is other n p t (b ∷ bs) (c ∷ cs) e h = by_test (nat_eq c.0 n) refl (subst (λ x. (if nat_eq x n then Some b.1 else type_at n bs) ≡ Some t) h.0 e) (λ k. variable_is other n p t bs cs k h.3)
     where
       by_test : (own : Bool) → nat_eq c.0 n ≡ own → (if own then Some b.1 else type_at n bs) ≡ Some t →
-          (type_at n bs ≡ Some t → (bound_at other n cs ≡ variable_range P.declared rs n (view_at P.nodes n)) × (suc n + size (term_at P.nodes (suc n)) ≤ p)) →
-          ((if own then c.1 else bound_at other n cs) ≡ variable_range P.declared rs n (view_at P.nodes n)) × (suc n + size (term_at P.nodes (suc n)) ≤ p)
+          (type_at n bs ≡ Some t → (binding_range other n cs ≡ variable_range P.declared rs n (view_at P.nodes n)) × (suc n + size (term_at P.nodes (suc n)) ≤ p)) →
+          ((if own then c.1 else binding_range other n cs) ≡ variable_range P.declared rs n (view_at P.nodes n)) × (suc n + size (term_at P.nodes (suc n)) ≤ p)
       by_test true i e k =
           let same : c.0 ≡ n = grind (arith, nat_tests) in
           (h.1 ∙ ap (λ x. variable_range P.declared rs x (view_at P.nodes x)) same, subst (λ x. suc x + size (term_at P.nodes (suc x)) ≤ p) same h.2)
@@ -213,8 +213,8 @@ module _ (P : Program) (ab : AllAbove P.nodes) (rs : List RangeValue) where
         first_all p (size a + size u)
         (own_step p OfLet t (suc p ∷ (suc p + size a) ∷ []) lay.0 (record { here = sh.0 ∙ sym (shows_own u ((p, x) ∷ cs) (suc p + size a) shu); long = refl; bound = tt }))
         (both_all (suc p) (size a) (size u) (steps a bs cs (suc p) lay.1 h.1 (binders_later p (suc p) bs cs (omega arith) b) sha)
-        (steps u ((p, type_of a) ∷ bs) ((p, x) ∷ cs) (suc p + size a) lay.2 h.2
-        (bind_more p OfLet t (type_of a) (suc p ∷ (suc p + size a) ∷ []) x a bs cs lay.0 lay.1 (sym (shows_own a cs (suc p) sha)) b) shu))
+        (steps u ((p, term_type a) ∷ bs) ((p, x) ∷ cs) (suc p + size a) lay.2 h.2
+        (bind_more p OfLet t (term_type a) (suc p ∷ (suc p + size a) ∷ []) x a bs cs lay.0 lay.1 (sym (shows_own a cs (suc p) sha)) b) shu))
 
     all_steps : (xs : Terms) (bs : Scope) (cs : Bounds) (p : ℕ) → AllLaid P.nodes p xs → HaveTypes P.declared bs p xs → BindersAre p bs cs → Shows (range_in rs) p (all_node_ranges P.declared cs p xs) → AllStep P rs p (sizes xs)
     all_steps NoMore bs cs p lay h b sh = λ q i j. absurd (omega (arith, i, j))

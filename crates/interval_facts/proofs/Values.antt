@@ -12,7 +12,7 @@ use Rattle.fc_values.specs.Positions.{argument_nth, arguments_nth}
 use Rattle.topology.specs.Networks.{Network, IsNetwork, numbers, near}
 use Rattle.topology.proofs.Lemmas.{AllNear, near_fits}
 use Rattle.interval_facts.specs.Ranges.{RangeValue, IntRange, InRange, AllInRange, LiesIn, input_range, sense_range}
-use Rattle.interval_facts.specs.Solutions.{Devices, In, near_among, field_over, field_of}
+use Rattle.interval_facts.specs.Solutions.{Devices, In, near_among, field_around, field_of}
 use Rattle.interval_facts.proofs.Operators.{EachLies}
 use Rattle.interval_facts.proofs.Hoods.{EachLiesIn}
 use Rattle.interval_facts.proofs.Pointwise.{Within, OverThem, AllOver}
@@ -43,7 +43,7 @@ EachNear P [] = Unit {0}
 EachNear P (n ∷ ns) = P n × EachNear P ns
 
 pub over_lies : (P : ℕ × ℕ → Type 0) (d : ℕ) (v : LocalValue) (r : RangeValue) (f : ℕ × ℕ → LocalValue) → InRange r v → ((n : ℕ × ℕ) → P n → InRange r (f n)) →
-    (ns : List (ℕ × ℕ)) → EachNear P ns → LiesIn r (field_over d v ns f)
+    (ns : List (ℕ × ℕ)) → EachNear P ns → LiesIn r (field_around d v ns f)
 over_lies P d v r f h g ns k = with_lies d v r (map (λ (n : ℕ × ℕ). (n.0, f n)) ns) h (all ns k)
   where
     all : (ns : List (ℕ × ℕ)) → EachNear P ns → AllInRange r (map (λ (n : ℕ × ℕ). (n.0, f n)) ns)
@@ -74,7 +74,7 @@ weights_in D ds d A (n ∷ ns) h = by_test (A n.0) refl (weights_in D ds d A ns 
     by_test false i k = rw i k
 
 pub links_lie : (N : Network) → IsNetwork N → N.declared.least ≤ N.declared.greatest → (D : Devices) (d : ℕ) →
-    LiesIn (IntRange N.declared.least N.declared.greatest) (field_over d (IntValue N.declared.least) (near_among N D d) (λ n. IntValue n.1))
+    LiesIn (IntRange N.declared.least N.declared.greatest) (field_around d (IntValue N.declared.least) (near_among N D d) (λ n. IntValue n.1))
 links_lie N net l D d =
     over_lies (InMetric N.declared) d (IntValue N.declared.least) (IntRange N.declared.least N.declared.greatest) (λ n. IntValue n.1) (omega arith, l) (λ n k. (k.0, k.1))
     (near_among N D d) (weights_in N.declared (numbers N.devices) d D (near N d) (near_fits N.declared (numbers N.devices) d N.links net.links))

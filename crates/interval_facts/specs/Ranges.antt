@@ -94,17 +94,18 @@ abbrev pub second_range : RangeValue → RangeValue → RangeValue
 second_range other (PairRange r s) = s
 second_range other _ = other
 
-abbrev pub of_one : (RangeValue → RangeValue) → RangeValue → List RangeValue → RangeValue
-of_one f other (r ∷ []) = f r
-of_one f other _ = other
+abbrev pub range_of_one : (RangeValue → RangeValue) → RangeValue → List RangeValue → RangeValue
+range_of_one f other (r ∷ []) = f r
+range_of_one f other _ = other
 
-abbrev pub of_two : (RangeValue → RangeValue → RangeValue) → RangeValue → List RangeValue → RangeValue
-of_two f other (r ∷ s ∷ []) = f r s
-of_two f other _ = other
+abbrev pub range_of_two : (RangeValue → RangeValue → RangeValue) → RangeValue → List RangeValue → RangeValue
+range_of_two f other (r ∷ s ∷ []) = f r s
+range_of_two f other _ = other
 
-abbrev pub of_three : (RangeValue → RangeValue → RangeValue → RangeValue) → RangeValue → List RangeValue → RangeValue
-of_three f other (r ∷ s ∷ u ∷ []) = f r s u
-of_three f other _ = other
+abbrev pub range_of_three : (RangeValue → RangeValue → RangeValue → RangeValue) → RangeValue → List RangeValue
+    → RangeValue
+range_of_three f other (r ∷ s ∷ u ∷ []) = f r s u
+range_of_three f other _ = other
 
 abbrev pub sum_cut : ℕ → ℕ → ℕ → ℕ
 sum_cut ceiling a b = min ceiling (a + b)
@@ -114,24 +115,24 @@ product_cut ceiling a b = min ceiling (a * b)
 
 -- the range of a builtin's value from those of its arguments
 abbrev pub builtin_range : ℕ → RangeValue → Builtin → List RangeValue → RangeValue
-builtin_range ceiling other op.Add rs = of_two (both_ends (sum_cut ceiling) other) other rs
-builtin_range ceiling other op.Sub rs = of_two (difference other) other rs
-builtin_range ceiling other op.Mul rs = of_two (both_ends (product_cut ceiling) other) other rs
+builtin_range ceiling other op.Add rs = range_of_two (both_ends (sum_cut ceiling) other) other rs
+builtin_range ceiling other op.Sub rs = range_of_two (difference other) other rs
+builtin_range ceiling other op.Mul rs = range_of_two (both_ends (product_cut ceiling) other) other rs
 builtin_range ceiling other op.Rise rs =
-    of_three (λ a b s. both_ends min other a (both_ends (sum_cut ceiling) other b s)) other rs
-builtin_range ceiling other op.Min rs = of_two least_range other rs
-builtin_range ceiling other op.Max rs = of_two greatest_range other rs
+    range_of_three (λ a b s. both_ends min other a (both_ends (sum_cut ceiling) other b s)) other rs
+builtin_range ceiling other op.Min rs = range_of_two least_range other rs
+builtin_range ceiling other op.Max rs = range_of_two greatest_range other rs
 builtin_range ceiling other op.Less rs = BoolRange
 builtin_range ceiling other op.Equal rs = BoolRange
 builtin_range ceiling other op.And rs = BoolRange
 builtin_range ceiling other op.Or rs = BoolRange
 builtin_range ceiling other op.Not rs = BoolRange
-builtin_range ceiling other op.Mux rs = of_three (λ c a b. hull a b) other rs
-builtin_range ceiling other op.Pair rs = of_two PairRange other rs
-builtin_range ceiling other op.Fst rs = of_one (first_range other) other rs
-builtin_range ceiling other op.Snd rs = of_one (second_range other) other rs
-builtin_range ceiling other op.MinHoodLoc rs = of_two least_hood other rs
-builtin_range ceiling other op.MaxHoodLoc rs = of_two greatest_hood other rs
+builtin_range ceiling other op.Mux rs = range_of_three (λ c a b. hull a b) other rs
+builtin_range ceiling other op.Pair rs = range_of_two PairRange other rs
+builtin_range ceiling other op.Fst rs = range_of_one (first_range other) other rs
+builtin_range ceiling other op.Snd rs = range_of_one (second_range other) other rs
+builtin_range ceiling other op.MinHoodLoc rs = range_of_two least_hood other rs
+builtin_range ceiling other op.MaxHoodLoc rs = range_of_two greatest_hood other rs
 builtin_range ceiling other op.SumHood rs = IntRange 0 ceiling
 builtin_range ceiling other op.AnyHood rs = BoolRange
 builtin_range ceiling other op.AllHood rs = BoolRange
@@ -142,9 +143,9 @@ builtin_range ceiling other op.AllHood rs = BoolRange
 abbrev pub Bounds : Type 0
 Bounds = List (ℕ × RangeValue)
 
-abbrev pub bound_at : RangeValue → ℕ → Bounds → RangeValue
-bound_at other n [] = other
-bound_at other n (b ∷ bs) = if nat_eq b.0 n then b.1 else bound_at other n bs
+abbrev pub binding_range : RangeValue → ℕ → Bounds → RangeValue
+binding_range other n [] = other
+binding_range other n (b ∷ bs) = if nat_eq b.0 n then b.1 else binding_range other n bs
 
 abbrev pub input_range : InputTy → RangeValue
 input_range input.Truth = BoolRange
@@ -161,7 +162,7 @@ literal_range (PairValue a b) = PairRange (literal_range a) (literal_range b)
 
 abbrev pub leaf_range : Declarations → Bounds → ValueType → Leaf → RangeValue
 leaf_range D bounds t (Literal v) = literal_range v
-leaf_range D bounds t (Variable n) = bound_at (full D.ceiling (inner t)) n bounds
+leaf_range D bounds t (Variable n) = binding_range (full D.ceiling (inner t)) n bounds
 leaf_range D bounds t (Sense i) = sense_range (full D.ceiling (inner t)) (slice_get D.inputs i)
 leaf_range D bounds t Uid = IntRange 0 D.ceiling
 leaf_range D bounds t NbrLink = IntRange D.least D.greatest
@@ -205,6 +206,7 @@ abbrev mutual
 abbrev pub ranges_of : Unfolding → List RangeValue
 ranges_of U = node_ranges U.declared [] 0 U.main
 
+-- the range of the node at a place
 abbrev pub range_of : Unfolding → ℕ → RangeValue
 range_of U p = get_or (ranges_of U) p BoolRange
 

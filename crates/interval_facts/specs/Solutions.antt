@@ -7,7 +7,7 @@ use Rattle.fc_values.specs.Builtins.{builtin_value}
 use Rattle.fc_nodes.specs.Terms.{Leaf, Literal, Variable, Sense, Uid, NbrLink, Evolution, ByRep, ByShare, Term, Terms, Plain, Apply, Nbr, Evolve, If, Let, NoMore, More, size}
 use Rattle.alignment.specs.Environments.{same_truth}
 use Rattle.topology.specs.Networks.{Network, lives, inputs_in, near}
-use Rattle.topology.specs.Nearby.{near_numbers}
+use Rattle.topology.specs.Nearby.{neighbour_numbers}
 
 -- a set of devices
 abbrev pub Devices : Type 0
@@ -33,15 +33,15 @@ near_among N D d = filter (λ (n : ℕ × ℕ). D n.0) (near N d)
 
 -- a device and its neighbours in a set
 abbrev pub around : Network → Devices → ℕ → List ℕ
-around N D d = with_number d (near_numbers (near_among N D d))
+around N D d = with_number d (neighbour_numbers (near_among N D d))
 
 -- a field over a device and these neighbours
-abbrev pub field_over : ℕ → LocalValue → List (ℕ × ℕ) → (ℕ × ℕ → LocalValue) → AnyValue
-field_over d v ns f = ValueField (with_entry d v (map (λ (n : ℕ × ℕ). (n.0, f n)) ns))
+abbrev pub field_around : ℕ → LocalValue → List (ℕ × ℕ) → (ℕ × ℕ → LocalValue) → AnyValue
+field_around d v ns f = ValueField (with_entry d v (map (λ (n : ℕ × ℕ). (n.0, f n)) ns))
 
 -- the field of what a map has at a device and its neighbours in a set
 abbrev pub field_of : Network → Devices → (ℕ → LocalValue) → ValueMap
-field_of N D f = λ d. field_over d (f d) (near_among N D d) (λ n. f n.0)
+field_of N D f = λ d. field_around d (f d) (near_among N D d) (λ n. f n.0)
 
 -- a map with values of a type, its fields over each device and its neighbours in the set
 abbrev pub FitsOn : Network → Devices → ValueType → ValueMap → Type 0
@@ -60,15 +60,17 @@ evolved ByShare N D f = field_of N D f
 abbrev pub where_is : Bool → Devices → (ℕ → Bool) → Devices
 where_is b D k = λ d. D d && same_truth b (k d)
 
+-- what some maps have at a device
 abbrev pub at_device : ℕ → List ValueMap → List AnyValue
 at_device d Gs = map (λ (G : ValueMap). G d) Gs
 
+-- `LeafIs N D l V d w`: a leaf has the value w at device d, where the binders have the maps V
 abbrev pub LeafIs : Network → Devices → Leaf → ValueMaps → ℕ → AnyValue → Type 0
 LeafIs N D (Literal v) V d w = w ≡ ValueLocal v
-LeafIs N D (Variable q) V d w = w ≡ restricted d (near_numbers (near_among N D d)) (V q d)
+LeafIs N D (Variable q) V d w = w ≡ restricted d (neighbour_numbers (near_among N D d)) (V q d)
 LeafIs N D (Sense i) V d w = (v : LocalValue) × (slice_get (inputs_in d N.devices) i ≡ Some v) × (w ≡ ValueLocal v)
 LeafIs N D Uid V d w = w ≡ ValueLocal (IntValue (min d N.declared.ceiling))
-LeafIs N D NbrLink V d w = w ≡ field_over d (IntValue N.declared.least) (near_among N D d) (λ n. IntValue n.1)
+LeafIs N D NbrLink V d w = w ≡ field_around d (IntValue N.declared.least) (near_among N D d) (λ n. IntValue n.1)
 
 -- `Solves N p t D V F`: over the devices D, where the binders have the maps V, the map F solves the term t at place p.
 -- Each map fits the type of its term. The first value of a `rep` or `share` isn't looked at.

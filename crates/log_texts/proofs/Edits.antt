@@ -15,8 +15,8 @@ use Rattle.value_trees.specs.KeptLists.{kept_only}
 use Rattle.firing_core.specs.Cores.{Core, IsGood, Edits}
 use Rattle.firing_core.specs.Entries.{EditValue, LinkEdit, UnlinkEdit, SetEdit, PokeEdit, JoinEdit, LeaveEdit, EntryValue, EditEntry}
 use Rattle.edit_commands.specs.EditLines.{EditLine, LinkLine, UnlinkLine, SetLine, PokeLine, JoinLine, LeaveLine, edit_line}
-use Rattle.edit_commands.specs.Judging.{edit_fault, after_edit, net_fault, IsEdit}
-use Rattle.edit_commands.specs.Logs.{LogLine, OfEdit, edit_in, log_line, line_fault, after_line, IsEntry}
+use Rattle.edit_commands.specs.Judging.{edit_line_fault, edited_network, net_fault, IsEdit}
+use Rattle.edit_commands.specs.Logs.{LogLine, OfEdit, edit_in, log_line, log_line_fault, network_after, IsEntry}
 use Rattle.edit_commands.specs.Values.{ValuesAreRead}
 use Rattle.report.specs.Logs.{input_name, edit_text, entry_line}
 use Rattle.report.specs.Texts.{value_text, after_space, after_spaces}
@@ -35,8 +35,8 @@ pub record IsSaid (U : Unfolding) (n : Network) (entry : EntryValue) (next : Net
   pub above : AllAbove 31 text
   pub line : LogLine
   pub read : log_line U.declared.inputs text ≡ Some line
-  pub allowed : line_fault U n line ≡ None
-  pub after : after_line n line ≡ next
+  pub allowed : log_line_fault U n line ≡ None
+  pub after : network_after n line ≡ next
   pub says : IsEntry U line entry
 
 -- ---- texts as words
@@ -87,7 +87,7 @@ module _ (law : ValuesAreRead) (U : Unfolding) (lawful : IsLawful U.declared) (n
   -- an edit whose text is words, of which the first one begins with none of `B`, `E` and `I`
   of_words : (e : EditValue) (w u : List ℕ) (ws : List (List ℕ)) (line : EditLine) → edit_text is e ≡ joined (w ∷ u ∷ ws) → AreWords (w ∷ u ∷ ws) → log_line is (joined (w ∷ u ∷ ws)) ≡ edit_in is (joined (w ∷ u ∷ ws))
       → 0 < length (joined (w ∷ u ∷ ws)) → edit_line is (w ∷ u ∷ ws) ≡ Some line
-      → edit_fault U c.net (λ d. false) line ≡ None → after_edit c.net line ≡ next.net → IsEdit U line e → IsSaid U c.net (EditEntry e) next.net
+      → edit_line_fault U c.net (λ d. false) line ≡ None → edited_network c.net line ≡ next.net → IsEdit U line e → IsSaid U c.net (EditEntry e) next.net
   of_words e w u ws line text words edit some read allowed after says = record {
     text = joined (w ∷ u ∷ ws);
     is = ap (λ t. t ++ codes "\n") text;

@@ -16,7 +16,7 @@ use Rattle.fc_nodes.specs.Program.{InputIsLawful, NoneNamed, InputsAreLawful}
 use Rattle.topology.specs.Networks.{NetDevice, numbers, DevicesFit}
 use Rattle.topology.specs.Changes.{nth_fault}
 use Rattle.topology.proofs.Lemmas.{input_none}
-use Rattle.edit_commands.specs.EditLines.{input_number}
+use Rattle.edit_commands.specs.EditLines.{input_index}
 use Rattle.report.specs.Logs.{input_name}
 use Rattle.log_texts.specs.ReadingBack.{AreNamed}
 use Rattle.log_texts.proofs.Values.{IsSmall, AllSmall}
@@ -73,7 +73,7 @@ apart xs ys h = by_test (bytes_eq xs ys) refl
     by_test false e = refl
 
 -- the first input of the name of an input is this one
-pub number_is : (c : ℕ) (is : List Input) (i : ℕ) (v : LocalValue) → InputsAreLawful c is → nth_fault is i v ≡ None → input_number is (input_name is i) ≡ i
+pub number_is : (c : ℕ) (is : List Input) (i : ℕ) (v : LocalValue) → InputsAreLawful c is → nth_fault is i v ≡ None → input_index is (input_name is i) ≡ i
 number_is c [] i v h e = absurd cc
 number_is c (x ∷ xs) zero v h e = let same : bytes_eq x.name x.name ≡ true = (bytes_eq-Decides x.name x.name).1 refl in rw same refl
 number_is c (x ∷ xs) (suc i) v h e =

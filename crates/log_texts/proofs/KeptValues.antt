@@ -6,7 +6,7 @@ use Rattle.fc_values.specs.Trees.{Tree, Trees, Keep, Done, Then}
 use Rattle.fc_values.specs.Values.{LocalValue, IntValue, BoolValue, PairValue}
 use Rattle.fc_nodes.specs.Flat.{FitsTree, FitTrees, IsExport, tree_export}
 use Rattle.fc_nodes.specs.Program.{Unfolding}
-use Rattle.fc_nodes.specs.Terms.{Term, Terms, Plain, Apply, Nbr, Evolve, If, Let, NoMore, More, type_of}
+use Rattle.fc_nodes.specs.Terms.{Term, Terms, Plain, Apply, Nbr, Evolve, If, Let, NoMore, More, term_type}
 use Rattle.value_trees.specs.KeptExports.{Keeps}
 use Rattle.value_trees.specs.KeptLists.{kept_in, kept_in_all, kept_only}
 use Rattle.value_trees.specs.KeptReads.{misfit_of}
@@ -72,7 +72,7 @@ module _ (U : Unfolding) (x : FlatExport) (h : IsExport U x) where
 
   pub kept_fit : fits_kept U x.value (kept_only x.slots) ≡ true
   kept_fit =
-      let has = type_had U.declared.ceiling (inner (type_of U.main)) x.value h.typed.value in
+      let has = type_had U.declared.ceiling (inner (term_type U.main)) x.value h.typed.value in
       let none : misfit_of U (kept_only x.slots) ≡ None = subst (λ (vs : List LocalValue). misfit_of U vs ≡ None) (kept_of_slots U x h) (kept_lists_fit U (tree_export U x) h.typed) in
       rw (has, none) refl
 

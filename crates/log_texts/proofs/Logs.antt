@@ -10,8 +10,8 @@ use Rattle.firing_core.specs.Laws.{StepsKeepGood, RunsAgree}
 use Rattle.firing_core.specs.Replays.{EntryFits, LogFits}
 use Rattle.edit_commands.specs.declared.types.Fault.{Fault}
 use Rattle.edit_commands.specs.Agreement.{ReadingsAgree, ReplaysAgree, SameEntries, value_in}
-use Rattle.edit_commands.specs.LineByLine.{Lines, AllLines, StopsAt, onto, and_lines, lines_from, unless, SaidBy}
-use Rattle.edit_commands.specs.Logs.{LogLine, log_line, after_line, text_judged, line_judged, log_of, IsEntry, IsLog}
+use Rattle.edit_commands.specs.LineByLine.{Lines, AllLines, StopsAt, onto, and_lines, lines_from, unless_fault, SaidBy}
+use Rattle.edit_commands.specs.Logs.{LogLine, log_line, network_after, log_text_judged, log_line_judged, log_of, IsEntry, IsLog}
 use Rattle.edit_commands.specs.Values.{ValuesAreRead}
 use Rattle.report.specs.Logs.{entry_line}
 use Rattle.log_texts.specs.ReadingBack.{log_lines, LinesBehind, numbered_from, AreNamed, LogsReadBack}
@@ -42,22 +42,22 @@ run_fits U c last (e ∷ es) h = (step_fits U c h.0 e h.1, run_fits U h.0 last e
 
 -- the lines of a text from a number on
 abbrev read_from : Unfolding → Network → ℕ → List (List ℕ) → Lines Fault LogLine
-read_from U n k lines = lines_from (line_judged U) after_line n k lines
+read_from U n k lines = lines_from (log_line_judged U) network_after n k lines
 
 -- a line that is said, and then the lines after it
 module _ (U : Unfolding) (n next : Network) (e : EntryValue) (s : IsSaid U n e next) (same : n.declared ≡ U.declared) (k : ℕ) (rest : List ℕ) where
   abbrev and_rest : LogLine → Lines Fault LogLine
-  and_rest l = read_from U (after_line n l) (k + 1) (lines_of rest)
+  and_rest l = read_from U (network_after n l) (k + 1) (lines_of rest)
 
   line_said : read_from U n k (lines_of (entry_line U.declared.inputs e ++ rest)) ≡ onto (k, s.line) (read_from U next (k + 1) (lines_of rest))
   line_said =
       ap (λ (t : List ℕ). read_from U n k (lines_of (t ++ rest))) s.is
       ∙ ap (read_from U n k) (first_line s.text rest s.above)
-      ∙ ap (λ (b : Bool). if b then read_from U n (k + 1) (lines_of rest) else and_lines k (line_judged U n (line_text (s.text ++ 10 ∷ []))) and_rest) (not_empty s.text s.some s.above)
-      ∙ ap (λ (t : List ℕ). and_lines k (line_judged U n t) and_rest) (line_back s.text s.some s.above)
-      ∙ ap (λ (D : Declarations). and_lines k (text_judged U n (log_line D.inputs s.text)) and_rest) same
-      ∙ ap (λ (o : Option LogLine). and_lines k (text_judged U n o) and_rest) s.read
-      ∙ ap (λ (f : Option Fault). and_lines k (unless f s.line) and_rest) s.allowed
+      ∙ ap (λ (b : Bool). if b then read_from U n (k + 1) (lines_of rest) else and_lines k (log_line_judged U n (line_text (s.text ++ 10 ∷ []))) and_rest) (not_empty s.text s.some s.above)
+      ∙ ap (λ (t : List ℕ). and_lines k (log_line_judged U n t) and_rest) (line_back s.text s.some s.above)
+      ∙ ap (λ (D : Declarations). and_lines k (log_text_judged U n (log_line D.inputs s.text)) and_rest) same
+      ∙ ap (λ (o : Option LogLine). and_lines k (log_text_judged U n o) and_rest) s.read
+      ∙ ap (λ (f : Option Fault). and_lines k (unless_fault f s.line) and_rest) s.allowed
       ∙ ap (λ (m : Network). onto (k, s.line) (read_from U m (k + 1) (lines_of rest))) s.after
 
 module _ (values : ValuesAreRead) (keep : StepsKeepGood) (P : Program) (p : IsProgram P) (named : AreNamed P.declared.inputs) where

@@ -6,7 +6,7 @@ use Rattle.std.specs.Str.{bytes_eq}
 use Rattle.fc_values.specs.Types.{LocalType, IntType, BoolType, PairType}
 use Rattle.fc_values.specs.Values.{LocalValue, IntValue, BoolValue, PairValue, Fits}
 use Rattle.edit_commands.specs.EditLines.{values_of}
-use Rattle.edit_commands.specs.Values.{atom_of, value_of, IsValueText, AtomText, PairText, ValuesAreRead}
+use Rattle.edit_commands.specs.Values.{atom_of, written_value, IsValueText, AtomText, PairText, ValuesAreRead}
 use Rattle.report.specs.Texts.{value_text}
 use Rattle.log_texts.proofs.Numbers.{number_back, number_above, no_word}
 use Rattle.log_texts.proofs.Words.{AllAbove, above_both, above_tested, AreWords}
@@ -51,7 +51,7 @@ is_text (PairValue v w) h =
     subst (λ t. IsValueText t (PairValue v w)) (pair_text (value_text v) (value_text w))
     (PairText (value_text v) (value_text w) v w (is_text v h.0) (is_text w h.1))
 
-pub value_back : ValuesAreRead → (v : LocalValue) → IsSmall v → value_of (value_text v) ≡ Some v
+pub value_back : ValuesAreRead → (v : LocalValue) → IsSmall v → written_value (value_text v) ≡ Some v
 value_back law v h = (law (value_text v) v).1 (is_text v h)
 
 pub value_above : (v : LocalValue) → IsSmall v → AllAbove 32 (value_text v)

@@ -6,7 +6,7 @@ use Rattle.std.proofs.lemmas.Bool.{eqb-true, eq-eqb}
 use Rattle.std.proofs.lemmas.List.{length-map}
 use Rattle.fc_values.specs.Fields.{is_in}
 use Rattle.topology.specs.Networks.{Network, NetDevice, IsNetwork, numbers, near}
-use Rattle.topology.specs.Nearby.{near_numbers}
+use Rattle.topology.specs.Nearby.{neighbour_numbers}
 use Rattle.topology.proofs.Lemmas.{near_rises}
 use Rattle.firing_core.proofs.Slots.{Distinct, rises_distinct}
 use Rattle.message_links.specs.MailCores.{reaches, Pairs, put_pair}
@@ -57,8 +57,8 @@ module _ {X : Type 0} (z : X) where
 pub devices_apart : (N : Network) → IsNetwork N → Distinct (numbers N.devices)
 devices_apart N net = rises_distinct (numbers N.devices) net.rising
 
-pub near_apart_at : (N : Network) (d : ℕ) → IsNetwork N → Distinct (near_numbers (near N d))
-near_apart_at N d net = rises_distinct (near_numbers (near N d)) (near_rises N.declared (numbers N.devices) d N.links net.links)
+pub near_apart_at : (N : Network) (d : ℕ) → IsNetwork N → Distinct (neighbour_numbers (near N d))
+near_apart_at N d net = rises_distinct (neighbour_numbers (near N d)) (near_rises N.declared (numbers N.devices) d N.links net.links)
 
 pub many_rows : {X : Type 0} (N : Network) (ds : List ℕ) (rows : List (List X)) → AreRows N ds rows → length rows ≡ length ds
 many_rows N [] [] a = refl
@@ -87,10 +87,10 @@ module _ {X : Type 0} (N : Network) (net : IsNetwork N) (rows : List (List X)) (
   in_devices : place.0 < length (numbers N.devices)
   in_devices = let m = many_devices in let w = at.row.within in omega arith
 
-  many_near : length (near_numbers (near N b)) ≡ length (near N b)
+  many_near : length (neighbour_numbers (near N b)) ≡ length (near N b)
   many_near = length-map (near N b) (λ (n : ℕ × ℕ). n.0)
 
-  in_near : place.1 < length (near_numbers (near N b))
+  in_near : place.1 < length (neighbour_numbers (near N b))
   in_near = let m = many_near in let w = at.within in omega arith
 
   abbrev pub the_row : List X
@@ -99,7 +99,7 @@ module _ {X : Type 0} (N : Network) (net : IsNetwork N) (rows : List (List X)) (
   row_is : item_at [] (numbers N.devices) rows b ≡ the_row
   row_is = item_here [] (numbers N.devices) rows place.0 b (devices_apart N net) in_devices at.row.is (many_rows N (numbers N.devices) rows shape)
 
-  long : length the_row ≡ length (near_numbers (near N b))
+  long : length the_row ≡ length (neighbour_numbers (near N b))
   long = row_long N (numbers N.devices) rows place.0 b shape in_devices at.row.is ∙ sym many_near
 
   pub row_within : place.0 < length rows
@@ -116,23 +116,23 @@ module _ {X : Type 0} (N : Network) (net : IsNetwork N) (rows : List (List X)) (
 
   module _ (z : X) where
     pub pair_read : at_pair N z rows a b ≡ get_or the_row place.1 z
-    pair_read = ap (λ r. item_at z (near_numbers (near N b)) r a) row_is ∙ item_here z (near_numbers (near N b)) the_row place.1 a (near_apart_at N b net) in_near at.is long
+    pair_read = ap (λ r. item_at z (neighbour_numbers (near N b)) r a) row_is ∙ item_here z (neighbour_numbers (near N b)) the_row place.1 a (near_apart_at N b net) in_near at.is long
 
     written_at : (v : X) (c d : ℕ) → at_pair N z (written v) c d ≡ put_pair (at_pair N z rows) a b v c d
     written_at v c d =
-        ap (λ r. item_at z (near_numbers (near N d)) r c) (item_put [] (numbers N.devices) rows place.0 b (slice_set the_row place.1 v) d (devices_apart N net) in_devices at.row.is (many_rows N (numbers N.devices) rows shape))
+        ap (λ r. item_at z (neighbour_numbers (near N d)) r c) (item_put [] (numbers N.devices) rows place.0 b (slice_set the_row place.1 v) d (devices_apart N net) in_devices at.row.is (many_rows N (numbers N.devices) rows shape))
         ∙ by_test (nat_eq d b) refl
       where
-        here : item_at z (near_numbers (near N b)) (slice_set the_row place.1 v) c ≡ (if nat_eq c a then v else at_pair N z rows c b)
-        here = item_put z (near_numbers (near N b)) the_row place.1 a v c (near_apart_at N b net) in_near at.is long ∙ ap (λ r. if nat_eq c a then v else item_at z (near_numbers (near N b)) r c) (sym row_is)
+        here : item_at z (neighbour_numbers (near N b)) (slice_set the_row place.1 v) c ≡ (if nat_eq c a then v else at_pair N z rows c b)
+        here = item_put z (neighbour_numbers (near N b)) the_row place.1 a v c (near_apart_at N b net) in_near at.is long ∙ ap (λ r. if nat_eq c a then v else item_at z (neighbour_numbers (near N b)) r c) (sym row_is)
 
         by_test : (t : Bool) → nat_eq d b ≡ t
-            → item_at z (near_numbers (near N d)) (if t then slice_set the_row place.1 v else item_at [] (numbers N.devices) rows d) c ≡ (if nat_eq c a && t then v else at_pair N z rows c d)
+            → item_at z (neighbour_numbers (near N d)) (if t then slice_set the_row place.1 v else item_at [] (numbers N.devices) rows d) c ≡ (if nat_eq c a && t then v else at_pair N z rows c d)
         by_test true q =
             let e = eqb-true d b q in
-            subst (λ j. item_at z (near_numbers (near N j)) (slice_set the_row place.1 v) c ≡ (if nat_eq c a && true then v else at_pair N z rows c j)) (sym e) (by_sender (nat_eq c a) here)
+            subst (λ j. item_at z (neighbour_numbers (near N j)) (slice_set the_row place.1 v) c ≡ (if nat_eq c a && true then v else at_pair N z rows c j)) (sym e) (by_sender (nat_eq c a) here)
           where
-            by_sender : (s : Bool) → item_at z (near_numbers (near N b)) (slice_set the_row place.1 v) c ≡ (if s then v else at_pair N z rows c b) → item_at z (near_numbers (near N b)) (slice_set the_row place.1 v) c ≡ (if s && true then v else at_pair N z rows c b)
+            by_sender : (s : Bool) → item_at z (neighbour_numbers (near N b)) (slice_set the_row place.1 v) c ≡ (if s then v else at_pair N z rows c b) → item_at z (neighbour_numbers (near N b)) (slice_set the_row place.1 v) c ≡ (if s && true then v else at_pair N z rows c b)
             by_sender true h = h
             by_sender false h = h
         by_test false q = by_sender (nat_eq c a)
@@ -147,7 +147,7 @@ module _ {X : Type 0} (N : Network) (net : IsNetwork N) (rows : List (List X)) (
 
 -- a pair that isn't one of neighbours has nothing
 pub pair_none : {X : Type 0} (N : Network) (z : X) (rows : List (List X)) (a b : ℕ) → reaches N a b ≡ false → at_pair N z rows a b ≡ z
-pair_none N z rows a b h = item_none z (near_numbers (near N b)) (item_at [] (numbers N.devices) rows b) a h
+pair_none N z rows a b h = item_none z (neighbour_numbers (near N b)) (item_at [] (numbers N.devices) rows b) a h
 
 -- what a pair has, written again
 pub put_same : {X : Type 0} (f : Pairs X) (a b : ℕ) (v : X) → f a b ≡ v → put_pair f a b v ≡ f

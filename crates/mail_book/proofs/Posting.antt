@@ -13,7 +13,7 @@ use Rattle.fc_nodes.specs.Flat.{tree_export, IsExport}
 use Rattle.value_trees.specs.Copies.{WhereSome}
 use Rattle.value_trees.specs.Snaps.{tree_of, IsExportOf}
 use Rattle.topology.specs.Networks.{Network, IsNetwork, numbers, near}
-use Rattle.topology.specs.Nearby.{near_numbers}
+use Rattle.topology.specs.Nearby.{neighbour_numbers}
 use Rattle.message_links.specs.MailCores.{Message as MailMessage, Pairs, put_pair, rest_of, pushed, posted, reaches}
 use Rattle.message_links.specs.declared.entries.TheConstants.{MOST_IN_TRANSIT}
 use Rattle.message_links.proofs.Reaching.{near_both}
@@ -87,7 +87,7 @@ module _ (N : Network) (net : IsNetwork N) (rows : List (List Letters)) (shape :
 -- ---- to one neighbour after another
 
 abbrev pub posted_among : {X : Type 0} → List (ℕ × ℕ) → Pairs (List X) → ℕ → X → Pairs (List X)
-posted_among ns transit d x a b = if nat_eq a d && is_in b (near_numbers ns) then pushed (transit a b) x else transit a b
+posted_among ns transit d x a b = if nat_eq a d && is_in b (neighbour_numbers ns) then pushed (transit a b) x else transit a b
 
 -- an export was sent to some of the neighbours
 pub record PostsAmong (U : Unfolding) (N : Network) (d : ℕ) (ns : List (ℕ × ℕ)) (sent : Option ℕ) (e : TreeExport) (old new : List (List Letters)) : Type 0 where
@@ -100,7 +100,7 @@ and_false : (b : Bool) → (b && false) ≡ false
 and_false true = refl
 and_false false = refl
 
-in_snoc : (b : ℕ) (ns : List (ℕ × ℕ)) (n : ℕ × ℕ) → is_in b (near_numbers (ns ++ n ∷ [])) ≡ (is_in b (near_numbers ns) || nat_eq b n.0)
+in_snoc : (b : ℕ) (ns : List (ℕ × ℕ)) (n : ℕ × ℕ) → is_in b (neighbour_numbers (ns ++ n ∷ [])) ≡ (is_in b (neighbour_numbers ns) || nat_eq b n.0)
 in_snoc b [] n = by_test (nat_eq b n.0)
   where
     by_test : (t : Bool) → (t || false) ≡ t
@@ -108,7 +108,7 @@ in_snoc b [] n = by_test (nat_eq b n.0)
     by_test false = refl
 in_snoc b (m ∷ ns) n = by_test (nat_eq b m.0) (in_snoc b ns n)
   where
-    by_test : (t : Bool) → is_in b (near_numbers (ns ++ n ∷ [])) ≡ (is_in b (near_numbers ns) || nat_eq b n.0) → (t || is_in b (near_numbers (ns ++ n ∷ []))) ≡ ((t || is_in b (near_numbers ns)) || nat_eq b n.0)
+    by_test : (t : Bool) → is_in b (neighbour_numbers (ns ++ n ∷ [])) ≡ (is_in b (neighbour_numbers ns) || nat_eq b n.0) → (t || is_in b (neighbour_numbers (ns ++ n ∷ []))) ≡ ((t || is_in b (neighbour_numbers ns)) || nat_eq b n.0)
     by_test true ih = refl
     by_test false ih = ih
 
@@ -117,7 +117,7 @@ or_last true = refl
 or_last false = refl
 
 -- one neighbour more, which is none of those before
-among_put : {X : Type 0} (ns : List (ℕ × ℕ)) (n : ℕ × ℕ) (f : Pairs (List X)) (d : ℕ) (x : X) → is_in n.0 (near_numbers ns) ≡ false
+among_put : {X : Type 0} (ns : List (ℕ × ℕ)) (n : ℕ × ℕ) (f : Pairs (List X)) (d : ℕ) (x : X) → is_in n.0 (neighbour_numbers ns) ≡ false
     → put_pair (posted_among ns f d x) d n.0 (pushed (posted_among ns f d x d n.0) x) ≡ posted_among (ns ++ n ∷ []) f d x
 among_put {X} ns n f d x new = fun_ext (λ a. fun_ext (λ b. at a b))
   where
@@ -125,9 +125,9 @@ among_put {X} ns n f d x new = fun_ext (λ a. fun_ext (λ b. at a b))
     before = rw new (let k = and_false (nat_eq d d) in rw k refl)
 
     at : (a b : ℕ) → put_pair (posted_among ns f d x) d n.0 (pushed (posted_among ns f d x d n.0) x) a b ≡ posted_among (ns ++ n ∷ []) f d x a b
-    at a b = rw (in_snoc b ns n, before) (by_tests (nat_eq a d) (nat_eq b n.0) (is_in b (near_numbers ns)) refl refl refl)
+    at a b = rw (in_snoc b ns n, before) (by_tests (nat_eq a d) (nat_eq b n.0) (is_in b (neighbour_numbers ns)) refl refl refl)
       where
-        by_tests : (s t u : Bool) → nat_eq a d ≡ s → nat_eq b n.0 ≡ t → is_in b (near_numbers ns) ≡ u
+        by_tests : (s t u : Bool) → nat_eq a d ≡ s → nat_eq b n.0 ≡ t → is_in b (neighbour_numbers ns) ≡ u
             → (if s && t then pushed (f d n.0) x else (if s && u then pushed (f a b) x else f a b)) ≡ (if s && (u || t) then pushed (f a b) x else f a b)
         by_tests false t u p q r = refl
         by_tests true true u p q r =
@@ -137,7 +137,7 @@ among_put {X} ns n f d x new = fun_ext (λ a. fun_ext (λ b. at a b))
         by_tests true false true p q r = refl
         by_tests true false false p q r = refl
 
-pub among_more : (U : Unfolding) (N : Network) (d : ℕ) (ns : List (ℕ × ℕ)) (n : ℕ × ℕ) (sent : Option ℕ) (e : TreeExport) (old middle new : List (List Letters)) → is_in n.0 (near_numbers ns) ≡ false → reaches N d n.0 ≡ true
+pub among_more : (U : Unfolding) (N : Network) (d : ℕ) (ns : List (ℕ × ℕ)) (n : ℕ × ℕ) (sent : Option ℕ) (e : TreeExport) (old middle new : List (List Letters)) → is_in n.0 (neighbour_numbers ns) ≡ false → reaches N d n.0 ≡ true
     → PostsAmong U N d ns sent e old middle → PostsTo U N d n.0 sent e middle new → PostsAmong U N d (ns ++ n ∷ []) sent e old new
 among_more U N d ns n sent e old middle new far linked p q = record {
   shape = q.shape;
@@ -164,31 +164,31 @@ among_all U N d ns sent e old new net whole p = record {
     at : (a b : ℕ) → posted_among ns (transit_at U N old) d x a b ≡ posted N (transit_at U N old) d x a b
     at a b = by_test (nat_eq a d) refl
       where
-        by_test : (s : Bool) → nat_eq a d ≡ s → (if s && is_in b (near_numbers ns) then pushed (transit_at U N old a b) x else transit_at U N old a b) ≡ (if s && reaches N a b then pushed (transit_at U N old a b) x else transit_at U N old a b)
+        by_test : (s : Bool) → nat_eq a d ≡ s → (if s && is_in b (neighbour_numbers ns) then pushed (transit_at U N old a b) x else transit_at U N old a b) ≡ (if s && reaches N a b then pushed (transit_at U N old a b) x else transit_at U N old a b)
         by_test false q = refl
         by_test true q =
             let g = eqb-true a d q in
-            let k : is_in b (near_numbers ns) ≡ reaches N a b = ap (λ ms. is_in b (near_numbers ms)) whole ∙ near_both N d b net ∙ ap (λ m. reaches N m b) (sym g) in
+            let k : is_in b (neighbour_numbers ns) ≡ reaches N a b = ap (λ ms. is_in b (neighbour_numbers ms)) whole ∙ near_both N d b net ∙ ap (λ m. reaches N m b) (sym g) in
             ap (λ u. if u then pushed (transit_at U N old a b) x else transit_at U N old a b) k
 
 -- the neighbour at an index is none of those before
-pub fresh_at : (ns : List (ℕ × ℕ)) (i : ℕ) (z : ℕ × ℕ) → Distinct (near_numbers ns) → i < length ns → is_in (get_or ns i z).0 (near_numbers (take i ns)) ≡ false
+pub fresh_at : (ns : List (ℕ × ℕ)) (i : ℕ) (z : ℕ × ℕ) → Distinct (neighbour_numbers ns) → i < length ns → is_in (get_or ns i z).0 (neighbour_numbers (take i ns)) ≡ false
 fresh_at [] i z n h = absurd (omega arith)
 fresh_at (m ∷ ns) zero z n h = refl
 fresh_at (m ∷ ns) (suc i) z n h =
     let k : nat_eq (get_or ns i z).0 m.0 ≡ false = ne_eqb (get_or ns i z).0 m.0 (λ e. n.0 i (omega (arith, h, length-map ns (λ (x : ℕ × ℕ). x.0))) (numbers_at ns i z (omega arith) ∙ e)) in
     rw k (fresh_at ns i z n.1 (omega arith))
   where
-    numbers_at : (xs : List (ℕ × ℕ)) (j : ℕ) (y : ℕ × ℕ) → j < length xs → get_or (near_numbers xs) j 0 ≡ (get_or xs j y).0
+    numbers_at : (xs : List (ℕ × ℕ)) (j : ℕ) (y : ℕ × ℕ) → j < length xs → get_or (neighbour_numbers xs) j 0 ≡ (get_or xs j y).0
     numbers_at [] j y h = absurd (omega arith)
     numbers_at (x ∷ xs) zero y h = refl
     numbers_at (x ∷ xs) (suc j) y h = numbers_at xs j y (omega arith)
 
-pub in_at : (ns : List (ℕ × ℕ)) (i : ℕ) (z : ℕ × ℕ) → i < length ns → is_in (get_or ns i z).0 (near_numbers ns) ≡ true
+pub in_at : (ns : List (ℕ × ℕ)) (i : ℕ) (z : ℕ × ℕ) → i < length ns → is_in (get_or ns i z).0 (neighbour_numbers ns) ≡ true
 in_at [] i z h = absurd (omega arith)
 in_at (m ∷ ns) zero z h = let k : nat_eq m.0 m.0 ≡ true = eq-eqb m.0 m.0 refl in rw k refl
 in_at (m ∷ ns) (suc i) z h = by_test (nat_eq (get_or ns i z).0 m.0) (in_at ns i z (omega arith))
   where
-    by_test : (b : Bool) → is_in (get_or ns i z).0 (near_numbers ns) ≡ true → (b || is_in (get_or ns i z).0 (near_numbers ns)) ≡ true
+    by_test : (b : Bool) → is_in (get_or ns i z).0 (neighbour_numbers ns) ≡ true → (b || is_in (get_or ns i z).0 (neighbour_numbers ns)) ≡ true
     by_test true h = refl
     by_test false h = h

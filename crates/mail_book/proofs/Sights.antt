@@ -12,7 +12,7 @@ use Rattle.value_trees.specs.declared.copies.Snap.{Snap}
 use Rattle.value_trees.specs.Copies.{WhereSome, FitsCopy}
 use Rattle.value_trees.specs.Snaps.{tree_of, snap_copy, IsExportOf}
 use Rattle.topology.specs.Networks.{Network, NetDevice, Lives, numbers, near}
-use Rattle.topology.specs.Nearby.{near_numbers, AtPlace}
+use Rattle.topology.specs.Nearby.{neighbour_numbers, AtPlace}
 use Rattle.topology.proofs.Lemmas.{AllNear, near_fits}
 use Rattle.firing_core.specs.Cores.{Map, put, Core, near_with, near_copies, copy_of, GoodExport, IsGood}
 use Rattle.firing_core.specs.CoreViews.{CoreValue, core_of, program_of}
@@ -41,8 +41,8 @@ far m (j ∷ is) i apart = here (nat_eq m j) refl i (λ r. far m is r (λ k h. a
 
 module _ (U : Unfolding) where
   -- the copies of the neighbours with what a table has are those of a row that the table reads
-  pub row_copies : (table : Map TreeExport) (ns : List (ℕ × ℕ)) (ls : List Letters) → Distinct (near_numbers ns) → length ls ≡ length ns
-      → ((n : ℕ) → is_in n (near_numbers ns) ≡ true → table n ≡ item_at None (near_numbers ns) (map (heard_of U) ls) n) → near_copies table ns ≡ heard_copies U ns ls
+  pub row_copies : (table : Map TreeExport) (ns : List (ℕ × ℕ)) (ls : List Letters) → Distinct (neighbour_numbers ns) → length ls ≡ length ns
+      → ((n : ℕ) → is_in n (neighbour_numbers ns) ≡ true → table n ≡ item_at None (neighbour_numbers ns) (map (heard_of U) ls) n) → near_copies table ns ≡ heard_copies U ns ls
   row_copies table [] ls n h t = refl
   row_copies table (x ∷ ns) [] n h t = absurd (omega arith)
   row_copies table (x ∷ ns) (l ∷ ls) n h t =
@@ -50,15 +50,15 @@ module _ (U : Unfolding) where
       let first : table x.0 ≡ heard_of U l = t x.0 (rw k refl) ∙ rw k refl in
       ap (λ o. near_with x o (near_copies table ns)) first ∙ ap (near_with x (heard_of U l)) (row_copies table ns ls n.1 (omega arith) later)
     where
-      later : (m : ℕ) → is_in m (near_numbers ns) ≡ true → table m ≡ item_at None (near_numbers ns) (map (heard_of U) ls) m
+      later : (m : ℕ) → is_in m (neighbour_numbers ns) ≡ true → table m ≡ item_at None (neighbour_numbers ns) (map (heard_of U) ls) m
       later m i = by_test (nat_eq m x.0) refl (t m (in_more (nat_eq m x.0)))
         where
-          in_more : (b : Bool) → (b || is_in m (near_numbers ns)) ≡ true
+          in_more : (b : Bool) → (b || is_in m (neighbour_numbers ns)) ≡ true
           in_more true = refl
           in_more false = i
 
-          by_test : (b : Bool) → nat_eq m x.0 ≡ b → table m ≡ (if b then heard_of U l else item_at None (near_numbers ns) (map (heard_of U) ls) m) → table m ≡ item_at None (near_numbers ns) (map (heard_of U) ls) m
-          by_test true q e = let y = eqb-true m x.0 q in absurd (far m (near_numbers ns) i (λ k h r. n.0 k h (r ∙ y)))
+          by_test : (b : Bool) → nat_eq m x.0 ≡ b → table m ≡ (if b then heard_of U l else item_at None (neighbour_numbers ns) (map (heard_of U) ls) m) → table m ≡ item_at None (neighbour_numbers ns) (map (heard_of U) ls) m
+          by_test true q e = let y = eqb-true m x.0 q in absurd (far m (neighbour_numbers ns) i (λ k h r. n.0 k h (r ∙ y)))
           by_test false q e = e
 
   -- what a row has heard is well-typed
@@ -93,19 +93,19 @@ item_map f z (i ∷ is) (x ∷ xs) d = by_test (nat_eq d i) (item_map f z is xs 
     by_test true ih = refl
     by_test false ih = ih
 
-not_itself : (D : Network) (ds : List ℕ) (d : ℕ) (ns : List (ℕ × ℕ)) → AllNear D.declared ds d ns → is_in d (near_numbers ns) ≡ true → ⊥
+not_itself : (D : Network) (ds : List ℕ) (d : ℕ) (ns : List (ℕ × ℕ)) → AllNear D.declared ds d ns → is_in d (neighbour_numbers ns) ≡ true → ⊥
 not_itself D ds d [] a i = absurd cc
 not_itself D ds d (n ∷ ns) a i = by_test (nat_eq d n.0) refl i (not_itself D ds d ns a.1)
   where
-    by_test : (b : Bool) → nat_eq d n.0 ≡ b → (b || is_in d (near_numbers ns)) ≡ true → (is_in d (near_numbers ns) ≡ true → ⊥) → ⊥
+    by_test : (b : Bool) → nat_eq d n.0 ≡ b → (b || is_in d (neighbour_numbers ns)) ≡ true → (is_in d (neighbour_numbers ns) ≡ true → ⊥) → ⊥
     by_test true q i ih = a.0.other (sym (eqb-true d n.0 q))
     by_test false q i ih = ih i
 
-near_lives : (D : Network) (ds : List ℕ) (a b : ℕ) (ns : List (ℕ × ℕ)) → AllNear D.declared ds b ns → is_in a (near_numbers ns) ≡ true → is_in a ds ≡ true
+near_lives : (D : Network) (ds : List ℕ) (a b : ℕ) (ns : List (ℕ × ℕ)) → AllNear D.declared ds b ns → is_in a (neighbour_numbers ns) ≡ true → is_in a ds ≡ true
 near_lives D ds a b [] all h = absurd cc
 near_lives D ds a b (n ∷ ns) all h = by_test (nat_eq a n.0) refl h (near_lives D ds a b ns all.1)
   where
-    by_test : (t : Bool) → nat_eq a n.0 ≡ t → (t || is_in a (near_numbers ns)) ≡ true → (is_in a (near_numbers ns) ≡ true → is_in a ds ≡ true) → is_in a ds ≡ true
+    by_test : (t : Bool) → nat_eq a n.0 ≡ t → (t || is_in a (neighbour_numbers ns)) ≡ true → (is_in a (neighbour_numbers ns) ≡ true → is_in a ds ≡ true) → is_in a ds ≡ true
     by_test true q i ih = let e = eqb-true a n.0 q in rw e all.0.there
     by_test false q i ih = ih i
 
@@ -129,15 +129,15 @@ module _ (c : CoreValue) (good : IsGood (program_of c) (core_of c)) (rows : List
   pub row_is_long : length (get_or rows p []) ≡ length (near c.net d)
   row_is_long = row_long c.net (numbers c.net.devices) rows p d shape in_devices at.is
 
-  heard_row : (n : ℕ) → heard_at (program_of c) c.net rows n d ≡ item_at None (near_numbers (near c.net d)) (map (heard_of (program_of c)) (get_or rows p [])) n
+  heard_row : (n : ℕ) → heard_at (program_of c) c.net rows n d ≡ item_at None (neighbour_numbers (near c.net d)) (map (heard_of (program_of c)) (get_or rows p [])) n
   heard_row n =
-      ap (λ r. item_at None (near_numbers (near c.net d)) r n)
+      ap (λ r. item_at None (neighbour_numbers (near c.net d)) r n)
       (item_map (λ r. map (heard_of (program_of c)) r) [] (numbers c.net.devices) rows d
       ∙ ap (λ r. map (heard_of (program_of c)) r) (item_here [] (numbers c.net.devices) rows p d (devices_apart c.net good.net) in_devices at.is (many_rows c.net (numbers c.net.devices) rows shape)))
 
-  seen_near : (n : ℕ) → is_in n (near_numbers (near c.net d)) ≡ true → seen n ≡ item_at None (near_numbers (near c.net d)) (map (heard_of (program_of c)) (get_or rows p [])) n
+  seen_near : (n : ℕ) → is_in n (neighbour_numbers (near c.net d)) ≡ true → seen n ≡ item_at None (neighbour_numbers (near c.net d)) (map (heard_of (program_of c)) (get_or rows p [])) n
   seen_near n i =
-      let k : nat_eq n d ≡ false = ne_eqb n d (λ e. not_itself c.net (numbers c.net.devices) d (near c.net d) fits (subst (λ m. is_in m (near_numbers (near c.net d)) ≡ true) e i)) in
+      let k : nat_eq n d ≡ false = ne_eqb n d (λ e. not_itself c.net (numbers c.net.devices) d (near c.net d) fits (subst (λ m. is_in m (neighbour_numbers (near c.net d)) ≡ true) e i)) in
       rw k (heard_row n)
 
   -- the neighbours of the copy
@@ -152,14 +152,14 @@ module _ (c : CoreValue) (good : IsGood (program_of c) (core_of c)) (rows : List
   seen_good n x q = by_test (nat_eq n d) refl q
     where
       heard_good : heard_at (program_of c) c.net rows n d ≡ Some x → GoodExport (program_of c) c.net n x
-      heard_good h = by_near (is_in n (near_numbers (near c.net d))) refl
+      heard_good h = by_near (is_in n (neighbour_numbers (near c.net d))) refl
         where
-          by_near : (b : Bool) → is_in n (near_numbers (near c.net d)) ≡ b → GoodExport (program_of c) c.net n x
+          by_near : (b : Bool) → is_in n (neighbour_numbers (near c.net d)) ≡ b → GoodExport (program_of c) c.net n x
           by_near true i = record {
             there = near_lives c.net (numbers c.net.devices) n d (near c.net d) fits i;
-            typed = item_typed (program_of c) (near_numbers (near c.net d)) (get_or rows p []) n x (row_letters (program_of c) rows p all) (sym (heard_row n) ∙ h);
+            typed = item_typed (program_of c) (neighbour_numbers (near c.net d)) (get_or rows p []) n x (row_letters (program_of c) rows p all) (sym (heard_row n) ∙ h);
           }
-          by_near false i = let e = item_none None (near_numbers (near c.net d)) (map (heard_of (program_of c)) (get_or rows p [])) n i in let r : None ≡ Some x = sym e ∙ sym (heard_row n) ∙ h in absurd cc
+          by_near false i = let e = item_none None (neighbour_numbers (near c.net d)) (map (heard_of (program_of c)) (get_or rows p [])) n i in let r : None ≡ Some x = sym e ∙ sym (heard_row n) ∙ h in absurd cc
 
       by_test : (b : Bool) → nat_eq n d ≡ b → (if b then (core_of c).exports n else heard_at (program_of c) c.net rows n d) ≡ Some x → GoodExport (program_of c) c.net n x
       by_test true t h = good.exports n x h

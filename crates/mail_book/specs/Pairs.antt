@@ -2,7 +2,7 @@
 -- value for each of its neighbours, as they rise. The device of a row receives, and its neighbours send.
 use Rattle.std.specs.Prelude.{ℕ, ◌≡◌, ◌<◌, nat_eq, if◌then◌else◌, List, [], ◌∷◌, length, slice_index}
 use Rattle.topology.specs.Networks.{Network, numbers, near}
-use Rattle.topology.specs.Nearby.{near_numbers, AtPlace}
+use Rattle.topology.specs.Nearby.{neighbour_numbers, AtPlace}
 use Rattle.message_links.specs.MailCores.{Reaches, Pairs}
 
 -- the item at the place that a number has in another list; `z` where it has none
@@ -13,7 +13,7 @@ item_at z (i ∷ is) (x ∷ xs) k = if nat_eq k i then x else item_at z is xs k
 
 -- the item that rows hold for an ordered pair
 abbrev pub at_pair : {X : Type 0} → Network → X → List (List X) → Pairs X
-at_pair N z rows from to = item_at z (near_numbers (near N to)) (item_at [] (numbers N.devices) rows to) from
+at_pair N z rows from to = item_at z (neighbour_numbers (near N to)) (item_at [] (numbers N.devices) rows to) from
 
 -- a row for each device, with as many items as it has neighbours
 abbrev pub AreRows : {X : Type 0} → Network → List ℕ → List (List X) → Type 0
@@ -25,5 +25,5 @@ AreRows N _ _ = ⊥
 pub record AtPair (N : Network) (from to : ℕ) (place : ℕ × ℕ) : Type 0 where
   pub row : AtPlace N to place.0
   pub within : place.1 < length (near N to)
-  pub is : slice_index (near_numbers (near N to)) place.1 ≡ from
+  pub is : slice_index (neighbour_numbers (near N to)) place.1 ≡ from
   pub reaches : Reaches N from to

@@ -3,7 +3,7 @@
 ghost use Rattle.std.specs.Prelude.{◌≡◌, ◌<◌, IfSome, IfNone, true, false, length, slice_index};
 ghost use Rattle.fc_values.specs.Fields.{is_in};
 ghost use Rattle.topology.specs.Networks.{IsNetwork};
-ghost use Rattle.topology.specs.Nearby.{near_numbers};
+ghost use Rattle.topology.specs.Nearby.{neighbour_numbers};
 ghost use Rattle.message_links.specs.MailCores.{reaches};
 ghost use Rattle.mail_book.specs.Pairs.{AtPair};
 
@@ -23,10 +23,10 @@ pub fn pair_place(net: &Network, from: u32, to: u32) -> Option<(usize, usize)>
 
 // The place of a device among neighbours.
 fn near_place(near: &[(u32, u32)], device: u32) -> Option<usize>
-    ensures there { IfSome result (λ i. slice_index (near_numbers near.now) i ≡ device) }
+    ensures there { IfSome result (λ i. slice_index (neighbour_numbers near.now) i ≡ device) }
     ensures within { IfSome result (λ i. i < length near.now) }
-    ensures is_in { IfSome result (λ i. is_in device (near_numbers near.now) ≡ true) }
-    ensures none { IfNone result (is_in device (near_numbers near.now) ≡ false) }
+    ensures is_in { IfSome result (λ i. is_in device (neighbour_numbers near.now) ≡ true) }
+    ensures none { IfNone result (is_in device (neighbour_numbers near.now) ≡ false) }
 {
     for (at, neighbour) in near.iter().enumerate() {
         if neighbour.0 == device {

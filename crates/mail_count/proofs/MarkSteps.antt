@@ -5,7 +5,7 @@ use Rattle.std.specs.declared.alloc.Global.{Global}
 use Rattle.std.specs.Vec.{with_item}
 use Rattle.std.proofs.lemmas.List.{length-map}
 use Rattle.topology.specs.Networks.{Network, NetDevice, IsNetwork, numbers, near}
-use Rattle.topology.specs.Nearby.{near_numbers}
+use Rattle.topology.specs.Nearby.{neighbour_numbers}
 use Rattle.mail_book.specs.Pairs.{AtPair}
 use Rattle.message_links.specs.MailCores.{MailDeliver, MailAgain, MailLose, Pairs, put_pair, rest_of, without}
 use Rattle.mail_count.specs.declared.pairs.Bringing.{Bringing}
@@ -53,7 +53,7 @@ module _ (N : Network) (net : IsNetwork N) (m : Marks) (s : Seen) (t : Tells N m
       let r : get_or (own_rows m.rows.items) row [] ≡ row_of N s.own a = ap (λ rows. get_or rows row []) t.rows.own ∙ row_read N net s.own a row pair.row in
       let k = length-map v.items (λ (x : Bringing). x.own.items) in
       let l = ap (length {A = List Bool}) (i ∙ r) in
-      let n = length-map (near_numbers (near N a)) (s.own a) in
+      let n = length-map (neighbour_numbers (near N a)) (s.own a) in
       let o = length-map (near N a) (λ (x : ℕ × ℕ). x.0) in
       let h = pair.within in
       (row_there, omega arith)

@@ -6,7 +6,7 @@ use Rattle.std.proofs.lemmas.List.{length-map}
 use Rattle.fc_values.specs.Fields.{is_in}
 use Rattle.fc_values.proofs.Booleans.{or_true}
 use Rattle.topology.specs.Networks.{Network, NetDevice, IsNetwork, lives, numbers, near}
-use Rattle.topology.specs.Nearby.{near_numbers, AtPlace}
+use Rattle.topology.specs.Nearby.{neighbour_numbers, AtPlace}
 use Rattle.topology.proofs.Lemmas.{near_none}
 use Rattle.firing_core.proofs.Slots.{Distinct}
 use Rattle.message_links.specs.MailCores.{Pairs, put_pair, posted, pushed, reaches, Reaches}
@@ -101,11 +101,11 @@ module _ {X : Type 0} (N : Network) (net : IsNetwork N) (f : Pairs X) where
 
   -- the item of an ordered pair
   module _ (a b : ℕ) (place : ℕ × ℕ) (at : AtPair N b a place) where
-    in_near : place.1 < length (near_numbers (near N a))
+    in_near : place.1 < length (neighbour_numbers (near N a))
     in_near = let m = length-map (near N a) (λ (n : ℕ × ℕ). n.0) in let w = at.within in omega arith
 
     pub item_read : (z : X) → get_or (get_or (pair_rows N f) place.0 []) place.1 z ≡ f a b
-    item_read z = ap (λ r. get_or r place.1 z) (row_read a place.0 at.row) ∙ map_read (f a) (near_numbers (near N a)) place.1 b z in_near at.is
+    item_read z = ap (λ r. get_or r place.1 z) (row_read a place.0 at.row) ∙ map_read (f a) (neighbour_numbers (near N a)) place.1 b z in_near at.is
 
     pub item_write : (v : X) → slice_set (pair_rows N f) place.0 (slice_set (get_or (pair_rows N f) place.0 []) place.1 v) ≡ pair_rows N (put_pair f a b v)
     item_write v = row_write a place.0 at.row (put_pair f a b v) (slice_set (get_or (pair_rows N f) place.0 []) place.1 v) here other
@@ -115,10 +115,10 @@ module _ {X : Type 0} (N : Network) (net : IsNetwork N) (f : Pairs X) where
             let k : nat_eq a a ≡ true = eq-eqb a a refl in
             let l : nat_eq b b ≡ true = eq-eqb b b refl in
             sym (ap (λ r. slice_set r place.1 v) (row_read a place.0 at.row)
-            ∙ map_write (f a) (put_pair f a b v a) (near_numbers (near N a)) place.1 b v (near_apart_at N a net) in_near at.is (rw (k, l) refl) (λ c q. rw (k, q) refl))
+            ∙ map_write (f a) (put_pair f a b v a) (neighbour_numbers (near N a)) place.1 b v (near_apart_at N a net) in_near at.is (rw (k, l) refl) (λ c q. rw (k, q) refl))
 
         other : (x : ℕ) → nat_eq x a ≡ false → row_of N (put_pair f a b v) x ≡ row_of N f x
-        other x q = map_in (put_pair f a b v x) (f x) (near_numbers (near N x)) (λ c i. rw q refl)
+        other x q = map_in (put_pair f a b v x) (f x) (neighbour_numbers (near N x)) (λ c i. rw q refl)
 
   -- a pair that isn't one of neighbours is in no row
   pub item_away : (a b : ℕ) (v : X) → reaches N b a ≡ false → pair_rows N (put_pair f a b v) ≡ pair_rows N f
@@ -127,16 +127,16 @@ module _ {X : Type 0} (N : Network) (net : IsNetwork N) (f : Pairs X) where
       by_test : (x : ℕ) (t : Bool) → nat_eq x a ≡ t → row_of N (put_pair f a b v) x ≡ row_of N f x
       by_test x true q =
           let e = eqb-true x a q in
-          sym (map_away (f x) (put_pair f a b v x) (near_numbers (near N x)) b (ap (λ y. is_in b (near_numbers (near N y))) e ∙ far) (λ c r. rw (q, r) refl))
-      by_test x false q = map_in (put_pair f a b v x) (f x) (near_numbers (near N x)) (λ c i. rw q refl)
+          sym (map_away (f x) (put_pair f a b v x) (neighbour_numbers (near N x)) b (ap (λ y. is_in b (neighbour_numbers (near N y))) e ∙ far) (λ c r. rw (q, r) refl))
+      by_test x false q = map_in (put_pair f a b v x) (f x) (neighbour_numbers (near N x)) (λ c i. rw q refl)
 
 -- what a device sends stands in its row
 module _ {X : Type 0} (N : Network) (net : IsNetwork N) (f : Pairs (List X)) (d : ℕ) (x : X) where
   sent_here : row_of N (posted N f d x) d ≡ map (λ xs. pushed xs x) (row_of N f d)
-  sent_here = map_in (posted N f d x d) (λ b. pushed (f d b) x) (near_numbers (near N d)) (λ b i.
+  sent_here = map_in (posted N f d x d) (λ b. pushed (f d b) x) (neighbour_numbers (near N d)) (λ b i.
       let k : nat_eq d d ≡ true = eq-eqb d d refl in
       let l : reaches N d b ≡ true = sym (near_both N d b net) ∙ i in
-      rw (k, l) refl) ∙ map_twice (near_numbers (near N d))
+      rw (k, l) refl) ∙ map_twice (neighbour_numbers (near N d))
     where
       map_twice : (bs : List ℕ) → map (λ b. pushed (f d b) x) bs ≡ map (λ xs. pushed xs x) (map (f d) bs)
       map_twice [] = refl
@@ -145,11 +145,11 @@ module _ {X : Type 0} (N : Network) (net : IsNetwork N) (f : Pairs (List X)) (d 
   pub row_sent : (p : ℕ) → AtPlace N d p → slice_set (pair_rows N f) p (map (λ xs. pushed xs x) (get_or (pair_rows N f) p [])) ≡ pair_rows N (posted N f d x)
   row_sent p at = row_write N net f d p at (posted N f d x) (map (λ xs. pushed xs x) (get_or (pair_rows N f) p []))
       (sent_here ∙ ap (map (λ xs. pushed xs x)) (sym (row_read N net f d p at)))
-      (λ a q. map_in (posted N f d x a) (f a) (near_numbers (near N a)) (λ b i. rw q refl))
+      (λ a q. map_in (posted N f d x a) (f a) (neighbour_numbers (near N a)) (λ b i. rw q refl))
 
   pub none_sent : lives N d ≡ false → pair_rows N (posted N f d x) ≡ pair_rows N f
   none_sent far = map_in (row_of N (posted N f d x)) (row_of N f) (numbers N.devices) (λ a i.
-      map_in (posted N f d x a) (f a) (near_numbers (near N a)) (λ b j. by_test a i (nat_eq a d) refl b))
+      map_in (posted N f d x a) (f a) (neighbour_numbers (near N a)) (λ b j. by_test a i (nat_eq a d) refl b))
     where
       by_test : (a : ℕ) → is_in a (numbers N.devices) ≡ true → (t : Bool) → nat_eq a d ≡ t → (b : ℕ) → posted N f d x a b ≡ f a b
       by_test a i true q b = let e = ap (λ y. is_in y (numbers N.devices)) (eqb-true a d q) in absurd cc
@@ -166,7 +166,7 @@ rows_map {X} {Y} N g f = outer (numbers N.devices)
     outer : (ds : List ℕ) → map (λ r. map g r) (map (row_of N f) ds) ≡ map (row_of N (λ a b. g (f a b))) ds
     outer [] = refl
     outer (d ∷ ds) =
-        ap (λ r. r ∷ map (λ r. map g r) (map (row_of N f) ds)) (inner d (near_numbers (near N d)))
+        ap (λ r. r ∷ map (λ r. map g r) (map (row_of N f) ds)) (inner d (neighbour_numbers (near N d)))
         ∙ ap (λ rows. row_of N (λ a b. g (f a b)) d ∷ rows) (outer ds)
 
 -- ---- how many are missing
@@ -197,8 +197,8 @@ many_same N f g = each (numbers N.devices)
     each : (ds : List ℕ) → many (map (row_of N f) ds) ≡ many (map (row_of N g) ds)
     each [] = refl
     each (d ∷ ds) =
-        let m = length-map (near_numbers (near N d)) (f d) in
-        let n = length-map (near_numbers (near N d)) (g d) in
+        let m = length-map (neighbour_numbers (near N d)) (f d) in
+        let n = length-map (neighbour_numbers (near N d)) (g d) in
         let ih = each ds in
         omega arith
 
@@ -230,17 +230,17 @@ true_rows N f (x ∷ ds) h = let k = h x in let ih = true_rows N f ds h in omega
 module _ (N : Network) (net : IsNetwork N) (f : Pairs Bool) where
   pub pairs_true : missing_rows (pair_rows N f) ≡ 0 → (a b : ℕ) → Reaches N a b → f a b ≡ true
   pairs_true h a b l =
-      let i : is_in b (near_numbers (near N a)) ≡ true = near_both N a b net ∙ l in
-      each_true (f a) (near_numbers (near N a)) (rows_true N f (numbers N.devices) h a (by_test i (lives N a) refl)) b i
+      let i : is_in b (neighbour_numbers (near N a)) ≡ true = near_both N a b net ∙ l in
+      each_true (f a) (neighbour_numbers (near N a)) (rows_true N f (numbers N.devices) h a (by_test i (lives N a) refl)) b i
     where
-      by_test : is_in b (near_numbers (near N a)) ≡ true → (t : Bool) → lives N a ≡ t → is_in a (numbers N.devices) ≡ true
+      by_test : is_in b (neighbour_numbers (near N a)) ≡ true → (t : Bool) → lives N a ≡ t → is_in a (numbers N.devices) ≡ true
       by_test i true q = q
       by_test i false q =
-          let e : is_in b (near_numbers (near N a)) ≡ false = ap (λ ns. is_in b (near_numbers ns)) (near_none N.declared (numbers N.devices) a N.links net.links q) in
+          let e : is_in b (neighbour_numbers (near N a)) ≡ false = ap (λ ns. is_in b (neighbour_numbers ns)) (near_none N.declared (numbers N.devices) a N.links net.links q) in
           absurd cc
 
   pub true_pairs : ((a b : ℕ) → Reaches N a b → f a b ≡ true) → missing_rows (pair_rows N f) ≡ 0
-  true_pairs h = true_rows N f (numbers N.devices) (λ a. none_missing (f a) (near_numbers (near N a)) (λ b i. h a b (sym (near_both N a b net) ∙ i)))
+  true_pairs h = true_rows N f (numbers N.devices) (λ a. none_missing (f a) (neighbour_numbers (near N a)) (λ b i. h a b (sym (near_both N a b net) ∙ i)))
 
 pub all_false : {X : Type 0} (n : ℕ) (xs : List X) → n ≡ length xs → replicate n false ≡ map (λ x. false) xs
 all_false zero [] h = refl
@@ -253,4 +253,4 @@ rows_missing N = each (numbers N.devices)
   where
     each : (ds : List ℕ) → missing_rows (map (row_of N (λ a b. false)) ds) ≡ many (map (row_of N (λ a b. false)) ds)
     each [] = refl
-    each (d ∷ ds) = let m = all_missing (near_numbers (near N d)) in let l = length-map (near_numbers (near N d)) (λ (b : ℕ). false) in let ih = each ds in omega arith
+    each (d ∷ ds) = let m = all_missing (neighbour_numbers (near N d)) in let l = length-map (neighbour_numbers (near N d)) (λ (b : ℕ). false) in let ih = each ds in omega arith

@@ -2,7 +2,7 @@
 use Rattle.std.specs.Prelude.{ℕ, Bool, ◌≡◌, ◌+◌, List, [], ◌∷◌, map, length, Vec}
 use Rattle.std.specs.declared.alloc.Global.{Global}
 use Rattle.topology.specs.Networks.{Network, numbers, near}
-use Rattle.topology.specs.Nearby.{near_numbers}
+use Rattle.topology.specs.Nearby.{neighbour_numbers}
 use Rattle.message_links.specs.MailCores.{Pairs}
 use Rattle.mail_count.specs.declared.pairs.Bringing.{Bringing}
 use Rattle.mail_count.specs.declared.marks.Marks.{Marks}
@@ -11,7 +11,7 @@ use Rattle.mail_count.specs.Seen.{Seen, missing}
 -- what a map of ordered pairs has, row by row: a row for each device, in the order of the network, with an item for
 -- each of its neighbours, as they rise. The device of a row sends, and its neighbours receive.
 abbrev pub row_of : {X : Type 0} → Network → Pairs X → ℕ → List X
-row_of N f a = map (f a) (near_numbers (near N a))
+row_of N f a = map (f a) (neighbour_numbers (near N a))
 
 abbrev pub pair_rows : {X : Type 0} → Network → Pairs X → List (List X)
 pair_rows N f = map (row_of N f) (numbers N.devices)

@@ -2,7 +2,7 @@
 
 ghost use Rattle.std.specs.Prelude.{◌≡◌, ◌&&◌, ◌||◌, IfOk, OnOk, if◌then◌else◌, map, not, false, length, replicate};
 ghost use Rattle.topology.specs.Networks.{near as near_of};
-ghost use Rattle.topology.specs.Nearby.{near_numbers};
+ghost use Rattle.topology.specs.Nearby.{neighbour_numbers};
 ghost use Rattle.message_links.specs.MailCores.{pushed, without};
 ghost use Rattle.mail_book.specs.MailViews.{mail_of};
 ghost use Rattle.mail_count.specs.Seen.{oldest_own};
@@ -24,9 +24,9 @@ pub(crate) struct Bringing {
 pub(crate) fn quiet_row(alloc: Global, mail: &Mail, from: u32) -> Result<Vec<Bringing>, Memory>
     ensures own { IfOk result (λ row. own_row row.items
         ≡ map (λ to. replicate (length ((mail_of mail.now).transit from to)) false)
-        (near_numbers (near_of mail.now.core.net from))) }
+        (neighbour_numbers (near_of mail.now.core.net from))) }
     ensures brought { IfOk result (λ row. brought_row row.items
-        ≡ map (λ to. false) (near_numbers (near_of mail.now.core.net from))) }
+        ≡ map (λ to. false) (neighbour_numbers (near_of mail.now.core.net from))) }
 {
     let mut row = Vec::new(alloc);
     for (to, _) in mail.core().net().neighbours(from) {

@@ -5,7 +5,7 @@ use Rattle.std.proofs.lemmas.Bool.{eqb-true, eq-eqb}
 use Rattle.fc_values.specs.Fields.{Rises, is_in}
 use Rattle.fc_values.proofs.Rising.{rises_apart, rises_tail}
 use Rattle.topology.specs.Networks.{Network, IsNetwork, numbers, near}
-use Rattle.topology.specs.Nearby.{near_numbers}
+use Rattle.topology.specs.Nearby.{neighbour_numbers}
 use Rattle.topology.proofs.Lemmas.{near_rises, near_none}
 use Rattle.scramble.specs.Words.{Words, next}
 use Rattle.message_links.specs.MailCores.{MailEntryValue, MailBegin, MailEnd, MailIdle, MailDeliver, MailAgain, MailLose, reaches, rest_of, without, posted}
@@ -13,7 +13,7 @@ use Rattle.message_links.specs.MailRounds.{Posts, posts_after, posts_along, HasM
 use Rattle.message_links.proofs.Along.{along_more}
 use Rattle.message_links.proofs.Reaching.{near_both}
 use Rattle.mail_drive.specs.Drives.{twice, firings, brought, brings_from, brings, round, driven}
-use Rattle.mail_drive.specs.Laws.{nothing, RoundsCover, DrivenRounds}
+use Rattle.mail_drive.specs.Laws.{no_posts, RoundsCover, DrivenRounds}
 
 -- ---- posts
 
@@ -171,24 +171,24 @@ module _ (N : Network) (a b : ℕ) where
   from_other d [] ws q = tt
   from_other d (n ∷ ns) ws q = other_more a b (brought d n.0 (next ws).0) (brings_from d ns (next ws).1).0 (other_bring a b d n.0 (next ws).0 (rw q refl)) (from_other d ns (next ws).1 q)
 
-  to_others : (d : ℕ) (ns : List (ℕ × ℕ)) (ws : Words) → is_in b (near_numbers ns) ≡ false → AllOther a b (brings_from d ns ws).0
+  to_others : (d : ℕ) (ns : List (ℕ × ℕ)) (ws : Words) → is_in b (neighbour_numbers ns) ≡ false → AllOther a b (brings_from d ns ws).0
   to_others d [] ws h = tt
   to_others d (n ∷ ns) ws h = by_test (nat_eq b n.0) refl h (to_others d ns (next ws).1)
     where
-      by_test : (t : Bool) → nat_eq b n.0 ≡ t → (t || is_in b (near_numbers ns)) ≡ false → (is_in b (near_numbers ns) ≡ false → AllOther a b (brings_from d ns (next ws).1).0)
+      by_test : (t : Bool) → nat_eq b n.0 ≡ t → (t || is_in b (neighbour_numbers ns)) ≡ false → (is_in b (neighbour_numbers ns) ≡ false → AllOther a b (brings_from d ns (next ws).1).0)
           → AllOther a b (brought d n.0 (next ws).0 ++ (brings_from d ns (next ws).1).0)
       by_test true q i ih = absurd cc
       by_test false q i ih = other_more a b (brought d n.0 (next ws).0) (brings_from d ns (next ws).1).0 (other_bring a b d n.0 (next ws).0 (rw q (and_last (nat_eq a d)))) (ih i)
 
-  to_it : (ns : List (ℕ × ℕ)) (ws : Words) → Rises (near_numbers ns) → is_in b (near_numbers ns) ≡ true → Found (brings_from a ns ws).0
+  to_it : (ns : List (ℕ × ℕ)) (ws : Words) → Rises (neighbour_numbers ns) → is_in b (neighbour_numbers ns) ≡ true → Found (brings_from a ns ws).0
   to_it [] ws r h = absurd cc
-  to_it (n ∷ ns) ws r h = by_test (nat_eq b n.0) refl h (to_it ns (next ws).1 (rises_tail n.0 (near_numbers ns) r))
+  to_it (n ∷ ns) ws r h = by_test (nat_eq b n.0) refl h (to_it ns (next ws).1 (rises_tail n.0 (neighbour_numbers ns) r))
     where
-      by_test : (t : Bool) → nat_eq b n.0 ≡ t → (t || is_in b (near_numbers ns)) ≡ true → (is_in b (near_numbers ns) ≡ true → Found (brings_from a ns (next ws).1).0)
+      by_test : (t : Bool) → nat_eq b n.0 ≡ t → (t || is_in b (neighbour_numbers ns)) ≡ true → (is_in b (neighbour_numbers ns) ≡ true → Found (brings_from a ns (next ws).1).0)
           → Found (brought a n.0 (next ws).0 ++ (brings_from a ns (next ws).1).0)
       by_test true q i ih =
           let g : b ≡ n.0 = eqb-true b n.0 q in
-          let far : is_in b (near_numbers ns) ≡ false = subst (λ k. is_in k (near_numbers ns) ≡ false) (sym g) (rises_apart n.0 (near_numbers ns) r) in
+          let far : is_in b (neighbour_numbers ns) ≡ false = subst (λ k. is_in k (neighbour_numbers ns) ≡ false) (sym g) (rises_apart n.0 (neighbour_numbers ns) r) in
           record {
             before = [];
             word = (next ws).0;
@@ -208,15 +208,15 @@ module _ (N : Network) (a b : ℕ) where
       by_test true q i ih = absurd cc
       by_test false q i ih = other_more a b (brings_from d (near N d) ws).0 (brings N ds (brings_from d (near N d) ws).1).0 (from_other d (near N d) ws q) (ih i)
 
-  nowhere : (ds : List ℕ) (ws : Words) → is_in b (near_numbers (near N a)) ≡ false → AllOther a b (brings N ds ws).0
+  nowhere : (ds : List ℕ) (ws : Words) → is_in b (neighbour_numbers (near N a)) ≡ false → AllOther a b (brings N ds ws).0
   nowhere [] ws h = tt
   nowhere (d ∷ ds) ws h = other_more a b (brings_from d (near N d) ws).0 (brings N ds (brings_from d (near N d) ws).1).0 (by_test (nat_eq a d) refl) (nowhere ds (brings_from d (near N d) ws).1 h)
     where
       by_test : (t : Bool) → nat_eq a d ≡ t → AllOther a b (brings_from d (near N d) ws).0
-      by_test true q = let g : a ≡ d = eqb-true a d q in to_others d (near N d) ws (subst (λ k. is_in b (near_numbers (near N k)) ≡ false) g h)
+      by_test true q = let g : a ≡ d = eqb-true a d q in to_others d (near N d) ws (subst (λ k. is_in b (neighbour_numbers (near N k)) ≡ false) g h)
       by_test false q = from_other d (near N d) ws q
 
-  found : (ds : List ℕ) (ws : Words) → Rises ds → Rises (near_numbers (near N a)) → is_in a ds ≡ true → is_in b (near_numbers (near N a)) ≡ true → Found (brings N ds ws).0
+  found : (ds : List ℕ) (ws : Words) → Rises ds → Rises (neighbour_numbers (near N a)) → is_in a ds ≡ true → is_in b (neighbour_numbers (near N a)) ≡ true → Found (brings N ds ws).0
   found [] ws r s h i = absurd cc
   found (d ∷ ds) ws r s h i = by_test (nat_eq a d) refl h (λ k. found ds (brings_from d (near N d) ws).1 (rises_tail d ds r) s k i)
     where
@@ -237,8 +237,8 @@ near_lives N a b net h = by_life (is_in a (numbers N.devices)) refl
     by_life true q = refl
     by_life false q =
         let none = near_none N.declared (numbers N.devices) a N.links net.links q in
-        let k : is_in b (near_numbers (near N a)) ≡ true = near_both N a b net ∙ h in
-        let e : is_in b (near_numbers (near N a)) ≡ false = ap (λ ns. is_in b (near_numbers ns)) none in
+        let k : is_in b (neighbour_numbers (near N a)) ≡ true = near_both N a b net ∙ h in
+        let e : is_in b (neighbour_numbers (near N a)) ≡ false = ap (λ ns. is_in b (neighbour_numbers ns)) none in
         absurd cc
 
 module _ (N : Network) (net : IsNetwork N) (at : ℕ) (ws : Words) where
@@ -252,8 +252,8 @@ module _ (N : Network) (net : IsNetwork N) (at : ℕ) (ws : Words) where
   S = (brings N ds ws).0
 
   module _ (a b : ℕ) (l : reaches N a b ≡ true) where
-    two : Sent N a b at nothing ds
-    two = sent N a b at nothing ds net.rising (near_lives N a b net l) l refl
+    two : Sent N a b at no_posts ds
+    two = sent N a b at no_posts ds net.rising (near_lives N a b net l) l refl
 
     it : Found N a b S
     it = found N a b ds ws net.rising (near_rises N.declared ds a N.links net.links) (near_lives N a b net l) (near_both N a b net ∙ l)
@@ -262,8 +262,8 @@ module _ (N : Network) (net : IsNetwork N) (at : ℕ) (ws : Words) where
     k = length two.before
 
     -- both messages are in transit where the pair is spoken of
-    both : posts_along N at nothing (F ++ it.before) a b ≡ Some (at + (k + 1)) ∷ Some (at + (k + 3)) ∷ []
-    both = ap (λ p. p a b) (along_more N at nothing F it.before) ∙ stays N a b (at + length F) (posts_along N at nothing F) it.before it.first ∙ two.posts
+    both : posts_along N at no_posts (F ++ it.before) a b ≡ Some (at + (k + 1)) ∷ Some (at + (k + 3)) ∷ []
+    both = ap (λ p. p a b) (along_more N at no_posts F it.before) ∙ stays N a b (at + length F) (posts_along N at no_posts F) it.before it.first ∙ two.posts
 
     first_own : EndsOwnBegin a (F ++ S) (k + 1)
     first_own = record {
@@ -285,17 +285,17 @@ module _ (N : Network) (net : IsNetwork N) (at : ℕ) (ws : Words) where
       is = let p = length-append (two.before ++ MailBegin a ∷ MailEnd a ∷ []) (MailBegin a ∷ []) in let q = length-append two.before (MailBegin a ∷ MailEnd a ∷ []) in omega arith;
     }
 
-    brings_it : Brings N at nothing F S a b
+    brings_it : Brings N at no_posts F S a b
     brings_it = by_tests ((it.word % 4) == 0) ((it.word % 4) == 1) it.cut
       where
         by_tests : (s t : Bool) → S ≡ it.before ++ ((if s then MailLose a b 0 ∷ MailDeliver a b ∷ [] else (if t then MailAgain a b ∷ MailDeliver a b ∷ MailDeliver a b ∷ [] else MailDeliver a b ∷ MailDeliver a b ∷ [])) ++ it.after)
-            → Brings N at nothing F S a b
+            → Brings N at no_posts F S a b
         by_tests true t cut =
             let whole : F ++ (it.before ++ MailLose a b 0 ∷ []) ≡ (F ++ it.before) ++ MailLose a b 0 ∷ [] = sym (append_assoc F it.before (MailLose a b 0 ∷ [])) in
-            let left : posts_along N at nothing (F ++ (it.before ++ MailLose a b 0 ∷ [])) a b ≡ Some (at + (k + 3)) ∷ [] =
-            ap (λ es. posts_along N at nothing es a b) whole
-            ∙ ap (λ p. p a b) (along_more N at nothing (F ++ it.before) (MailLose a b 0 ∷ []))
-            ∙ lost N a b (at + length (F ++ it.before)) (posts_along N at nothing (F ++ it.before))
+            let left : posts_along N at no_posts (F ++ (it.before ++ MailLose a b 0 ∷ [])) a b ≡ Some (at + (k + 3)) ∷ [] =
+            ap (λ es. posts_along N at no_posts es a b) whole
+            ∙ ap (λ p. p a b) (along_more N at no_posts (F ++ it.before) (MailLose a b 0 ∷ []))
+            ∙ lost N a b (at + length (F ++ it.before)) (posts_along N at no_posts (F ++ it.before))
             ∙ ap (without 0) both in
             record {
               before = it.before ++ MailLose a b 0 ∷ [];
@@ -340,23 +340,23 @@ module _ (N : Network) (net : IsNetwork N) (at : ℕ) (ws : Words) where
         by_tests false true = twice_taken (suc i)
         by_tests false false = twice_taken i
 
-    emptied : posts_along N at nothing (F ++ S) a b ≡ []
+    emptied : posts_along N at no_posts (F ++ S) a b ≡ []
     emptied =
-        ap (λ es. posts_along N at nothing (F ++ es) a b) it.cut
-        ∙ ap (λ es. posts_along N at nothing es a b) (sym (append_assoc F it.before (brought a b it.word ++ it.after)))
-        ∙ ap (λ p. p a b) (along_more N at nothing (F ++ it.before) (brought a b it.word ++ it.after))
-        ∙ ap (λ p. p a b) (along_more N (at + length (F ++ it.before)) (posts_along N at nothing (F ++ it.before)) (brought a b it.word) it.after)
-        ∙ stays N a b _ (posts_along N (at + length (F ++ it.before)) (posts_along N at nothing (F ++ it.before)) (brought a b it.word)) it.after it.last
-        ∙ taken (at + length (F ++ it.before)) (posts_along N at nothing (F ++ it.before)) _ _ it.word both
+        ap (λ es. posts_along N at no_posts (F ++ es) a b) it.cut
+        ∙ ap (λ es. posts_along N at no_posts es a b) (sym (append_assoc F it.before (brought a b it.word ++ it.after)))
+        ∙ ap (λ p. p a b) (along_more N at no_posts (F ++ it.before) (brought a b it.word ++ it.after))
+        ∙ ap (λ p. p a b) (along_more N (at + length (F ++ it.before)) (posts_along N at no_posts (F ++ it.before)) (brought a b it.word) it.after)
+        ∙ stays N a b _ (posts_along N (at + length (F ++ it.before)) (posts_along N at no_posts (F ++ it.before)) (brought a b it.word)) it.after it.last
+        ∙ taken (at + length (F ++ it.before)) (posts_along N at no_posts (F ++ it.before)) _ _ it.word both
 
   -- where no message can go
-  never : (a b : ℕ) → reaches N a b ≡ false → posts_along N at nothing (F ++ S) a b ≡ []
+  never : (a b : ℕ) → reaches N a b ≡ false → posts_along N at no_posts (F ++ S) a b ≡ []
   never a b l =
-      ap (λ p. p a b) (along_more N at nothing F S)
-      ∙ stays N a b (at + length F) (posts_along N at nothing F) S (nowhere N a b ds ws (near_both N a b net ∙ l))
-      ∙ no_way N a b at nothing ds l
+      ap (λ p. p a b) (along_more N at no_posts F S)
+      ∙ stays N a b (at + length F) (posts_along N at no_posts F) S (nowhere N a b ds ws (near_both N a b net ∙ l))
+      ∙ no_way N a b at no_posts ds l
 
-  covers : CoversMail N at nothing (round N ws).0
+  covers : CoversMail N at no_posts (round N ws).0
   covers = record {
     first = F;
     second = S;
@@ -365,17 +365,17 @@ module _ (N : Network) (net : IsNetwork N) (at : ℕ) (ws : Words) where
     brings = λ a b l. brings_it a b l;
   }
 
-  pub empties : posts_along N at nothing (round N ws).0 ≡ nothing
+  pub empties : posts_along N at no_posts (round N ws).0 ≡ no_posts
   empties = fun_ext (λ a. fun_ext (λ b. by_link a b (reaches N a b) refl))
     where
-      by_link : (a b : ℕ) (t : Bool) → reaches N a b ≡ t → posts_along N at nothing (F ++ S) a b ≡ []
+      by_link : (a b : ℕ) (t : Bool) → reaches N a b ≡ t → posts_along N at no_posts (F ++ S) a b ≡ []
       by_link a b true l = emptied a b l
       by_link a b false l = never a b l
 
 pub rounds_cover : RoundsCover
 rounds_cover N at ws net = (covers N net at ws, empties N net at ws)
 
-rounds_at : (N : Network) (at k : ℕ) (ws : Words) → IsNetwork N → HasMailRounds N at nothing (driven N k ws) k
+rounds_at : (N : Network) (at k : ℕ) (ws : Words) → IsNetwork N → HasMailRounds N at no_posts (driven N k ws) k
 rounds_at N at zero ws net = tt
 rounds_at N at (suc k) ws net =
     let part = (round N ws).0 in

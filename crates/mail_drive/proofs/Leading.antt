@@ -7,7 +7,7 @@ use Rattle.fc_values.proofs.Rising.{rises_apart, rises_tail}
 use Rattle.fc_values.specs.Trees.{Copy}
 use Rattle.fc_nodes.specs.Program.{Program, unfolding_of, IsProgram}
 use Rattle.topology.specs.Networks.{Network, IsNetwork, Lives, lives, numbers, near}
-use Rattle.topology.specs.Nearby.{near_numbers}
+use Rattle.topology.specs.Nearby.{neighbour_numbers}
 use Rattle.topology.proofs.Lemmas.{near_rises}
 use Rattle.firing_core.specs.Entries.{EndEntry}
 use Rattle.firing_core.specs.Cores.{Core, Step, begun, copy_of}
@@ -21,7 +21,7 @@ use Rattle.message_links.proofs.GoodMails.{IsMailGood, start_good, step_good}
 use Rattle.message_links.proofs.Posts.{SamePosts, run_posts, run_more}
 use Rattle.message_links.proofs.Reaching.{near_both}
 use Rattle.mail_drive.specs.Drives.{twice, firings, brought, brings_from, brings, round, driven}
-use Rattle.mail_drive.specs.Laws.{nothing, DrivenLeads}
+use Rattle.mail_drive.specs.Laws.{no_posts, DrivenLeads}
 use Rattle.mail_drive.proofs.Covering.{AllOther, stays, and_last, other_bring, from_other, near_lives, sent, empties}
 
 -- ---- lists of messages
@@ -182,35 +182,35 @@ module _ (keeps : StepsKeepGood) (fit : CopiesFit) (free : FaultlessStep) (P : P
     are = sym (run_posts (unfolding_of P) N at (posts_of c) c l.last es on (λ x y. refl) l.run a b) ∙ stays N a b at (posts_of c) es other ∙ two.are;
   }
 
-  bring_from : (at : ℕ) (c : MailCore) (a : ℕ) (ns : List (ℕ × ℕ)) (ws : Words) → Landed c → Rises (near_numbers ns)
-      → ((b : ℕ) → is_in b (near_numbers ns) ≡ true → Reaches N a b × Two c a b) → Leads at c (brings_from a ns ws).0
+  bring_from : (at : ℕ) (c : MailCore) (a : ℕ) (ns : List (ℕ × ℕ)) (ws : Words) → Landed c → Rises (neighbour_numbers ns)
+      → ((b : ℕ) → is_in b (neighbour_numbers ns) ≡ true → Reaches N a b × Two c a b) → Leads at c (brings_from a ns ws).0
   bring_from at c a [] ws l r all = nowhere at c l
   bring_from at c a (n ∷ ns) ws l r all =
       let now = all n.0 (here (nat_eq n.0 n.0) (eq-eqb n.0 n.0 refl)) in
       let first = bring_pair at c a n.0 (next ws).0 l now.0 now.1 in
       more at c (brought a n.0 (next ws).0) (brings_from a ns (next ws).1).0 first
-      (bring_from (at + length (brought a n.0 (next ws).0)) first.last a ns (next ws).1 first.landed (rises_tail n.0 (near_numbers ns) r)
+      (bring_from (at + length (brought a n.0 (next ws).0)) first.last a ns (next ws).1 first.landed (rises_tail n.0 (neighbour_numbers ns) r)
       (λ b h. let k = all b (later b (nat_eq b n.0) h) in (k.0, two_stay at c (brought a n.0 (next ws).0) first a b l.on (other_bring a b a n.0 (next ws).0 (apart b h)) k.1)))
     where
-      here : (t : Bool) → t ≡ true → (t || is_in n.0 (near_numbers ns)) ≡ true
+      here : (t : Bool) → t ≡ true → (t || is_in n.0 (neighbour_numbers ns)) ≡ true
       here t q = rw q refl
 
-      later : (b : ℕ) (t : Bool) → is_in b (near_numbers ns) ≡ true → (t || is_in b (near_numbers ns)) ≡ true
+      later : (b : ℕ) (t : Bool) → is_in b (neighbour_numbers ns) ≡ true → (t || is_in b (neighbour_numbers ns)) ≡ true
       later x true q = refl
       later x false q = q
 
-      apart : (b : ℕ) → is_in b (near_numbers ns) ≡ true → (nat_eq a a && nat_eq b n.0) ≡ false
+      apart : (b : ℕ) → is_in b (neighbour_numbers ns) ≡ true → (nat_eq a a && nat_eq b n.0) ≡ false
       apart b h = by_test (nat_eq b n.0) refl
         where
           by_test : (t : Bool) → nat_eq b n.0 ≡ t → (nat_eq a a && t) ≡ false
           by_test true q =
               let e : b ≡ n.0 = eqb-true b n.0 q in
-              let far : is_in b (near_numbers ns) ≡ false = subst (λ k. is_in k (near_numbers ns) ≡ false) (sym e) (rises_apart n.0 (near_numbers ns) r) in
+              let far : is_in b (neighbour_numbers ns) ≡ false = subst (λ k. is_in k (neighbour_numbers ns) ≡ false) (sym e) (rises_apart n.0 (neighbour_numbers ns) r) in
               absurd cc
           by_test false q = and_last N a b (nat_eq a a)
 
   bring_all : (at : ℕ) (c : MailCore) (ds : List ℕ) (ws : Words) → Landed c → Rises ds
-      → ((a b : ℕ) → is_in a ds ≡ true → is_in b (near_numbers (near N a)) ≡ true → Reaches N a b × Two c a b) → Leads at c (brings N ds ws).0
+      → ((a b : ℕ) → is_in a ds ≡ true → is_in b (neighbour_numbers (near N a)) ≡ true → Reaches N a b × Two c a b) → Leads at c (brings N ds ws).0
   bring_all at c [] ws l r all = nowhere at c l
   bring_all at c (d ∷ ds) ws l r all =
       let mine = brings_from d (near N d) ws in
@@ -249,15 +249,15 @@ module _ (keeps : StepsKeepGood) (fit : CopiesFit) (free : FaultlessStep) (P : P
   one_round at c ws l empty =
       let ds = numbers N.devices in
       let first = fire_all at c ds l (λ d h. h) in
-      let same : SamePosts nothing (posts_of c) = λ a b. sym (empty a b) in
+      let same : SamePosts no_posts (posts_of c) = λ a b. sym (empty a b) in
       let second = bring_all (at + length (firings ds)) first.last ds ws first.landed net.rising (λ a b h i.
       let r : reaches N a b ≡ true = sym (near_both N a b net) ∙ i in
-      let two = sent N a b at nothing ds net.rising (near_lives N a b net r) r refl in
-      (r, record { first = Some (at + (length two.before + 1)); second = Some (at + (length two.before + 3)); are = sym (run_posts (unfolding_of P) N at nothing c first.last (firings ds) l.on same first.run a b) ∙ two.posts })) in
+      let two = sent N a b at no_posts ds net.rising (near_lives N a b net r) r refl in
+      (r, record { first = Some (at + (length two.before + 1)); second = Some (at + (length two.before + 3)); are = sym (run_posts (unfolding_of P) N at no_posts c first.last (firings ds) l.on same first.run a b) ∙ two.posts })) in
       let whole = more at c (firings ds) (brings N ds ws).0 first second in
       record {
         leads = whole;
-        empty = λ a b. sym (run_posts (unfolding_of P) N at nothing c whole.last (round N ws).0 l.on same whole.run a b) ∙ ap (λ p. p a b) (empties N net at ws);
+        empty = λ a b. sym (run_posts (unfolding_of P) N at no_posts c whole.last (round N ws).0 l.on same whole.run a b) ∙ ap (λ p. p a b) (empties N net at ws);
       }
 
   many_rounds : (k at : ℕ) (c : MailCore) (ws : Words) → Landed c → Empty c → Rounds at c (driven N k ws)

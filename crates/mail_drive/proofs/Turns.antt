@@ -5,12 +5,12 @@ use Rattle.std.proofs.lemmas.Bool.{eq-eqb, ne_eqb}
 use Rattle.fc_values.specs.Types.{Declarations}
 use Rattle.fc_values.specs.Fields.{is_in}
 use Rattle.topology.specs.Networks.{Network, Edge, LinksFit, Lives, numbers, near, near_in}
-use Rattle.topology.specs.Nearby.{near_numbers}
+use Rattle.topology.specs.Nearby.{neighbour_numbers}
 use Rattle.scramble.specs.Words.{Words, next}
 use Rattle.message_links.specs.MailCores.{Reaches, MailEntryValue, MailBegin, MailEnd, MailIdle, MailDeliver, MailAgain, MailLose}
 use Rattle.message_links.specs.MailRounds.{Posts, posts_along, HasMailEnd, HasMailFiring, HasMailRounds}
 use Rattle.mail_drive.specs.Drives.{firings, brought, brings_from, brings, round, driven}
-use Rattle.mail_drive.specs.Laws.{nothing, NoMoreRounds}
+use Rattle.mail_drive.specs.Laws.{no_posts, NoMoreRounds}
 use Rattle.mail_drive.proofs.Covering.{near_lives}
 
 abbrev one_more : Bool → ℕ → ℕ
@@ -218,7 +218,7 @@ module _ (a b : ℕ) where
 -- ---- a link
 
 -- the ends of the first link reach each other
-first_link : (D : Declarations) (ds : List ℕ) (ls : List Edge) → LinksFit D ds ls → 1 ≤ length ls → (a : ℕ) × (b : ℕ) × (is_in a (near_numbers (near_in b ls)) ≡ true)
+first_link : (D : Declarations) (ds : List ℕ) (ls : List Edge) → LinksFit D ds ls → 1 ≤ length ls → (a : ℕ) × (b : ℕ) × (is_in a (neighbour_numbers (near_in b ls)) ≡ true)
 first_link D ds [] h some = absurd (omega arith)
 first_link D ds (l ∷ ls) h some =
     let order = h.0.order in
@@ -230,6 +230,6 @@ first_link D ds (l ∷ ls) h some =
 pub no_more_rounds : NoMoreRounds
 no_more_rounds N k j ws net some h =
     let l = first_link N.declared (numbers N.devices) N.links net.links some in
-    let j_turns = rounds_turn l.0 l.1 N (near_lives N l.0 l.1 net l.2) l.2 j 0 nothing (driven N k ws) h in
+    let j_turns = rounds_turn l.0 l.1 N (near_lives N l.0 l.1 net l.2) l.2 j 0 no_posts (driven N k ws) h in
     let turns_k = driven_turn l.0 l.1 N k ws in
     omega arith

@@ -28,26 +28,26 @@ abbrev pub Driven : Type 0
 Driven = List MailEntryValue × Words
 
 -- entries, and behind them others that are made from the words after them
-abbrev pub and_then : Driven → (Words → Driven) → Driven
-and_then d more = (d.0 ++ (more d.1).0, (more d.1).1)
+abbrev pub driven_then : Driven → (Words → Driven) → Driven
+driven_then d more = (d.0 ++ (more d.1).0, (more d.1).1)
 
 -- what is made of the messages of a device to these neighbours, as they rise; and of those of some devices to all
 -- neighbours
 abbrev pub brings_from : ℕ → List (ℕ × ℕ) → Words → Driven
 brings_from a [] words = ([], words)
-brings_from a (n ∷ ns) words = and_then (brought a n.0 (next words).0, (next words).1) (brings_from a ns)
+brings_from a (n ∷ ns) words = driven_then (brought a n.0 (next words).0, (next words).1) (brings_from a ns)
 
 abbrev pub brings : Network → List ℕ → Words → Driven
 brings N [] words = ([], words)
-brings N (d ∷ ds) words = and_then (brings_from d (near N d) words) (brings N ds)
+brings N (d ∷ ds) words = driven_then (brings_from d (near N d) words) (brings N ds)
 
 -- a round, and so many rounds
 abbrev pub round : Network → Words → Driven
-round N words = and_then (firings (numbers N.devices), words) (brings N (numbers N.devices))
+round N words = driven_then (firings (numbers N.devices), words) (brings N (numbers N.devices))
 
 abbrev pub rounds : Network → ℕ → Words → Driven
 rounds N zero words = ([], words)
-rounds N (suc k) words = and_then (round N words) (rounds N k)
+rounds N (suc k) words = driven_then (round N words) (rounds N k)
 
 abbrev pub driven : Network → ℕ → Words → List MailEntryValue
 driven N k words = (rounds N k words).0

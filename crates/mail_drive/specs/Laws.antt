@@ -8,8 +8,8 @@ use Rattle.message_links.specs.MailRounds.{Posts, posts_along, CoversMail, HasMa
 use Rattle.mail_drive.specs.Drives.{round, driven}
 
 -- nothing is in transit
-abbrev pub nothing : Posts
-nothing a b = []
+abbrev pub no_posts : Posts
+no_posts a b = []
 
 -- no device is in flight, and nothing is in transit
 pub record IsStill (c : MailCore) : Type 0 where
@@ -26,13 +26,13 @@ DrivenLeads = (P : Program) (k : ℕ) (words : Words) (start : MailCore) → IsP
 -- a round covers, wherever it stands, where nothing is in transit before, and nothing is after
 abbrev pub RoundsCover : Type 0
 RoundsCover = (N : Network) (at : ℕ) (words : Words) → IsNetwork N
-    → CoversMail N at nothing (round N words).0 × (posts_along N at nothing (round N words).0 ≡ nothing)
+    → CoversMail N at no_posts (round N words).0 × (posts_along N at no_posts (round N words).0 ≡ no_posts)
 
 -- k driven rounds are k rounds
 abbrev pub DrivenRounds : Type 0
-DrivenRounds = (N : Network) (k : ℕ) (words : Words) → IsNetwork N → HasMailRounds N 0 nothing (driven N k words) k
+DrivenRounds = (N : Network) (k : ℕ) (words : Words) → IsNetwork N → HasMailRounds N 0 no_posts (driven N k words) k
 
 -- and where the network has a link, they are no more
 abbrev pub NoMoreRounds : Type 0
 NoMoreRounds = (N : Network) (k j : ℕ) (words : Words) → IsNetwork N → 1 ≤ length N.links
-    → HasMailRounds N 0 nothing (driven N k words) j → j ≤ k
+    → HasMailRounds N 0 no_posts (driven N k words) j → j ≤ k

@@ -2,7 +2,7 @@
 
 ghost use Rattle.std.specs.Prelude.{◌≡◌, ◌++◌, IfOk, OnOk};
 ghost use Rattle.topology.specs.Networks.{numbers, near as near_of};
-ghost use Rattle.scramble.specs.Words.{next, words_of};
+ghost use Rattle.scramble.specs.Words.{next, stream_of};
 ghost use Rattle.message_links.specs.MailEntries.{mail_entries};
 ghost use Rattle.mail_drive.specs.Drives.{brought, firings, twice, Appends, brings_from, brings, driven};
 
@@ -21,7 +21,7 @@ pub fn drive(
     rounds: u32,
     number: u32,
 ) -> Result<Vec<MailEntry>, Memory>
-    ensures { IfOk result (λ log. mail_entries log.items ≡ driven net.now rounds (words_of number)) }
+    ensures { IfOk result (λ log. mail_entries log.items ≡ driven net.now rounds (stream_of number)) }
 {
     let mut words = generator(number);
     let mut log = Vec::new(alloc);

@@ -11,7 +11,7 @@ use Rattle.fc_values.specs.Trees.{TreeExport, Copy}
 use Rattle.value_trees.specs.Copies.{FitsCopy}
 use Rattle.fc_nodes.specs.Program.{Program, Unfolding, unfolding_of, IsProgram}
 use Rattle.topology.specs.Networks.{Network, IsNetwork, Lives, near}
-use Rattle.topology.specs.Nearby.{near_numbers}
+use Rattle.topology.specs.Nearby.{neighbour_numbers}
 use Rattle.firing_core.specs.Entries.{BeginEntry, EndEntry}
 use Rattle.firing_core.specs.Cores.{Map, Core, put, near_copies, copy_of, begun, StepSeeing, Ends, GoodExport, GoodFlight, IsGood}
 use Rattle.firing_core.specs.Laws.{StepsKeepGood, CopiesFit}
@@ -24,12 +24,12 @@ use Rattle.message_links.proofs.Posts.{pair_case}
 use Rattle.message_links.proofs.Reaching.{sender}
 use Rattle.message_links.proofs.Firings.{flies_after, flies_along, fired_after, fired_along, flies_more, fired_more}
 
-near_same : (f g : Map TreeExport) (ns : List (ℕ × ℕ)) → ((n : ℕ) → is_in n (near_numbers ns) ≡ true → f n ≡ g n) → near_copies f ns ≡ near_copies g ns
+near_same : (f g : Map TreeExport) (ns : List (ℕ × ℕ)) → ((n : ℕ) → is_in n (neighbour_numbers ns) ≡ true → f n ≡ g n) → near_copies f ns ≡ near_copies g ns
 near_same f g [] h = refl
 near_same f g (n ∷ ns) h =
     let k : nat_eq n.0 n.0 ≡ true = eq-eqb n.0 n.0 refl in
     let e : f n.0 ≡ g n.0 = h n.0 (rw k refl) in
-    let r = near_same f g ns (λ m i. h m (or_true (nat_eq m n.0) (is_in m (near_numbers ns)) i)) in
+    let r = near_same f g ns (λ m i. h m (or_true (nat_eq m n.0) (is_in m (neighbour_numbers ns)) i)) in
     rw (e, r) refl
 
 module _ (keeps : StepsKeepGood) (fit : CopiesFit) (P : ExportLevel) (p : Program) (N : Network) (program : IsProgram p) (net : IsNetwork N) (same : N.declared ≡ p.declared)

@@ -8,10 +8,10 @@ use Rattle.message_links.specs.MailEntries.{mail_entry, mail_entries}
 use Rattle.edit_commands.specs.LineByLine.{Judgement, WhereAccepted, Does, StopsAt}
 use Rattle.edit_commands.proofs.CutLines.{IsCut}
 use Rattle.edit_commands.proofs.ReadLines as lines
-use Rattle.mail_lines.specs.MailLines.{mail_line, line_judged, mail_log, IsMailLog, numbered}
+use Rattle.mail_lines.specs.MailLines.{mail_line, mail_line_judged, mail_log, IsMailLog, numbered}
 
 abbrev judge : Unit {0} → List ℕ → Judgement (Unit {0}) MailEntryValue
-judge s line = line_judged (mail_line line)
+judge s line = mail_line_judged (mail_line line)
 
 abbrev stay : Unit {0} → MailEntryValue → Unit {0}
 stay s e = s
@@ -39,16 +39,16 @@ module _ (text : List ℕ) (number : ℕ) (rest front back line : List ℕ) (es 
   pub read : (e : MailEntryValue) (pushed : List (ℕ × MailEntryValue)) → t ≡ false → mail_line line ≡ Some e → pushed ≡ es ++ (number + 1, e) ∷ [] → IsReadTo text (number + 1) back pushed
   read e pushed some said grown = lines.read judge stay Says Any Stays tt text tt number rest front back line es r c t is tt e pushed some does tt grown
     where
-      by_line : (o : Option MailEntryValue) → o ≡ Some e → WhereAccepted (Does stay Says Any tt tt e) (line_judged o)
+      by_line : (o : Option MailEntryValue) → o ≡ Some e → WhereAccepted (Does stay Says Any tt tt e) (mail_line_judged o)
       by_line None q = absurd cc
       by_line (Some l) q = record { says = let k : e ≡ l = cc in k; fits = tt; after_is = refl }
 
-      does : WhereAccepted (Does stay Says Any tt tt e) (line_judged (mail_line line))
+      does : WhereAccepted (Does stay Says Any tt tt e) (mail_line_judged (mail_line line))
       does = by_line (mail_line line) said
 
   pub refused : t ≡ false → mail_line line ≡ None → mail_log text ≡ StopsAt (number + 1) tt
   unfolding mail_log
-  refused some none = lines.stopped judge stay Says Any Stays tt text tt number rest front back line es r c t is tt some (ap line_judged none)
+  refused some none = lines.stopped judge stay Says Any Stays tt text tt number rest front back line es r c t is tt some (ap mail_line_judged none)
 
 pub all_read : (text : List ℕ) (number : ℕ) (rest : List ℕ) (es : List (ℕ × MailEntryValue)) (t : Bool) → IsReadTo text number rest es → t ≡ (length rest == 0) → t ≡ true → IsMailLog text es
 unfolding mail_log

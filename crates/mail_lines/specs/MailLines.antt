@@ -50,13 +50,13 @@ mail_line (b ∷ bs) =
     if b == 73 then idle bs else message_line (words_of (b ∷ bs))
 
 -- a line is an entry, or it has a fault, of which there is one kind
-abbrev pub line_judged : Option MailEntryValue → Judgement (Unit {0}) MailEntryValue
-line_judged None = Refused tt
-line_judged (Some e) = Accepted e
+abbrev pub mail_line_judged : Option MailEntryValue → Judgement (Unit {0}) MailEntryValue
+mail_line_judged None = Refused tt
+mail_line_judged (Some e) = Accepted e
 
 -- the lines of a mail log
 unfoldable pub mail_log : List ℕ → Lines (Unit {0}) MailEntryValue
-mail_log text = lines_from (λ (s : Unit {0}) line. line_judged (mail_line line)) (λ s e. s) tt 1 (lines_of text)
+mail_log text = lines_from (λ (s : Unit {0}) line. mail_line_judged (mail_line line)) (λ s e. s) tt 1 (lines_of text)
 
 -- the entries of a mail log in which each line is one, with the numbers of their lines
 abbrev pub IsMailLog : List ℕ → List (ℕ × MailEntryValue) → Type 0

@@ -6,14 +6,14 @@ use Rattle.fc_values.specs.Trees.{TreeExport}
 use Rattle.fc_values.specs.Fields.{is_in}
 use Rattle.fc_nodes.specs.Program.{Unfolding}
 use Rattle.topology.specs.Networks.{Network, near}
-use Rattle.topology.specs.Nearby.{near_numbers}
+use Rattle.topology.specs.Nearby.{neighbour_numbers}
 use Rattle.message_links.specs.declared.entries.TheConstants.{MOST_IN_TRANSIT}
 use Rattle.firing_core.specs.Entries.{BeginEntry}
 use Rattle.firing_core.specs.Cores.{Map, Core, StepSeeing, Ends, GoodExport, IsGood}
 
 -- whether messages go from one device to another: the sender is a neighbour of the receiver
 abbrev pub reaches : Network → ℕ → ℕ → Bool
-reaches N from to = is_in from (near_numbers (near N to))
+reaches N from to = is_in from (neighbour_numbers (near N to))
 
 abbrev pub Reaches : Network → ℕ → ℕ → Type 0
 Reaches N from to = reaches N from to ≡ true
@@ -90,6 +90,7 @@ pub record Hears (c : MailCore) (a b : ℕ) (stay : Message → List Message →
     transit = put_pair c.transit a b (stay oldest later);
   }
 
+-- the message of an index, counted from the oldest, is lost
 pub record Loses (c : MailCore) (a b i : ℕ) (next : MailCore) : Type 0 where
   pub linked : Reaches c.core.net a b
   pub there : i < length (c.transit a b)

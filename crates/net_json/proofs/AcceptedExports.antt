@@ -5,10 +5,10 @@ use Rattle.serde_json.specs.Data.{Data, Items, no_items, item}
 use Rattle.fc_values.specs.Values.{LocalValue}
 use Rattle.fc_values.specs.BuiltinTypes.{inner}
 use Rattle.fc_values.specs.Trees.{Tree, TreeExport}
-use Rattle.fc_nodes.specs.Terms.{type_of}
+use Rattle.fc_nodes.specs.Terms.{term_type}
 use Rattle.fc_nodes.specs.Program.{Unfolding}
 use Rattle.value_trees.proofs.ReadBack.{had_type}
-use Rattle.net_json.specs.Judging.{Accepted, Refusal, Misshaped, given, in_turn, at_member, at_index}
+use Rattle.net_json.specs.Judging.{Accepted, SceneRefusal, Misshaped, given, in_turn, at_member, at_index}
 use Rattle.value_trees.specs.KeptItems.{KeptItem, Taken, Took, Misfit, take_tree, values}
 use Rattle.net_json.specs.KeptItems.{kept_judged}
 use Rattle.net_json.specs.Exports.{whole_export, export_judged}
@@ -16,7 +16,7 @@ use Rattle.net_json.specs.AcceptedLists.{item_values, KeepsItems}
 use Rattle.value_trees.proofs.TookTrees.{took}
 use Rattle.net_json.proofs.Accepting.{then_accepted, require_accepted, same_accepted}
 
-given_accepted : {A : Type 0} (r : Refusal) (o : Option A) (a : A) → given r o ≡ Accepted a → o ≡ Some a
+given_accepted : {A : Type 0} (r : SceneRefusal) (o : Option A) (a : A) → given r o ≡ Accepted a → o ≡ Some a
 given_accepted r None a e = absurd cc
 given_accepted r (Some b) a e = ap Some (same_accepted e)
 
@@ -58,7 +58,7 @@ export_accepted U read path v ds e h =
     let t = took U.declared.ceiling U.main 0 xs [] w.0 w.1 in
     let kept = sym (append-nil _) ∙ sym t.values ∙ ap values are.whole in
     subst (KeepsItems U read v ds) (sym w.2) (record {
-      typed = record { value = had_type U.declared.ceiling (inner (type_of U.main)) v r.0; tree = t.fits };
+      typed = record { value = had_type U.declared.ceiling (inner (term_type U.main)) v r.0; tree = t.fits };
       value = refl;
       list = ap (map Some) kept ∙ are.values;
     }))

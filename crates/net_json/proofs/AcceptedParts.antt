@@ -19,7 +19,7 @@ use Rattle.topology.proofs.Lemmas.{linked_network}
 use Rattle.net_json.specs.Judging.{Accepted, Misshaped, given, at_member}
 use Rattle.net_json.specs.Reading.{value_of, two_members}
 use Rattle.net_json.specs.Inputs.{inputs_judged}
-use Rattle.net_json.specs.Devices.{device_form, device_number, live_number, device_judged, number_of, devices_judged}
+use Rattle.net_json.specs.Devices.{device_form, device_number, live_number, device_judged, number_of_device, devices_judged}
 use Rattle.net_json.specs.Links.{link_of, link_judged}
 use Rattle.value_trees.specs.KeptItems.{KeptItem}
 use Rattle.net_json.specs.KeptItems.{item_of_values}
@@ -78,13 +78,13 @@ record DeviceFits (is : List Input) (n : NetDevice) : Type 0 where
   pub small : n.id ≤ 65535
   pub inputs : InputsFit is n.inputs
 
-device_new : (is : List Input) (before path : List ℕ) (d : Data) (n : NetDevice) → device_judged is before path d ≡ Accepted n → IsNew number_of (DeviceFits is) before n
+device_new : (is : List Input) (before path : List ℕ) (d : Data) (n : NetDevice) → device_judged is before path d ≡ Accepted n → IsNew number_of_device (DeviceFits is) before n
 device_new is before path d n e =
     then_accepted (device_form path d) e (λ form f g.
     then_accepted (device_number before (at_member path (codes "id")) form.0) g (λ id h k.
     then_accepted (inputs_judged is (at_member path (codes "inputs")) form.1) k (λ vs l m.
     let number = device_number_accepted before _ form.0 id h in
-    subst (IsNew number_of (DeviceFits is) before) (same_accepted m) (record {
+    subst (IsNew number_of_device (DeviceFits is) before) (same_accepted m) (record {
       absent = number.1;
       holds = record { small = number.0; inputs = inputs_accepted is _ form.1 vs l };
     }))))
@@ -103,8 +103,8 @@ pub devices_accepted : (D : Declarations) (path : List ℕ) (ds : Items) (ns : L
 devices_accepted D path ds ns e =
     let some = require_accepted _ e in
     let few = require_accepted _ some.1 in
-    let many = many_gathered number_of (device_judged D.inputs) path ds ns few.1 in
-    let are = all_gathered number_of (device_judged D.inputs) (DeviceFits D.inputs) (device_new D.inputs) path ds ns few.1 in
+    let many = many_gathered number_of_device (device_judged D.inputs) path ds ns few.1 in
+    let are = all_gathered number_of_device (device_judged D.inputs) (DeviceFits D.inputs) (device_new D.inputs) path ds ns few.1 in
     let least = positive _ (not_true _ some.0) in
     let most = leb-true _ 1024 few.0 in
     record {

@@ -8,19 +8,19 @@ use Rattle.topology.specs.declared.types.NetFault.{NetFault}
 use Rattle.fc_values.specs.Fields.{Rises, is_in}
 use Rattle.fc_values.specs.Lists.{insert_after}
 use Rattle.fc_values.proofs.Lists.{insert_map, insert_length}
-use Rattle.net_json.specs.Judging.{JudgedScene, Accepted, Refused, Refusal, and_then, require, no_fault, in_turn, gathered, gather, at_index}
+use Rattle.net_json.specs.Judging.{JudgedScene, Accepted, Refused, SceneRefusal, if_accepted, require, no_fault, in_turn, gather_one, gather, at_index}
 use Rattle.net_json.specs.Reading.{count_items}
 use Rattle.net_json.proofs.Risings.{insert_rises}
 
 -- ---- one check
 
 -- both of two checks have accepted
-pub then_accepted : {A B R : Type 0} {next : A → JudgedScene B} {b : B} (j : JudgedScene A) → and_then j next ≡ Accepted b → ((a : A) → j ≡ Accepted a → next a ≡ Accepted b → R) → R
+pub then_accepted : {A B R : Type 0} {next : A → JudgedScene B} {b : B} (j : JudgedScene A) → if_accepted j next ≡ Accepted b → ((a : A) → j ≡ Accepted a → next a ≡ Accepted b → R) → R
 then_accepted (Accepted a) e h = h a refl e
 then_accepted (Refused r) e h = absurd cc
 
 -- the test held
-pub require_accepted : {A : Type 0} {test : Bool} {rest : JudgedScene A} {a : A} (r : Refusal) → require test r rest ≡ Accepted a → (test ≡ true) × (rest ≡ Accepted a)
+pub require_accepted : {A : Type 0} {test : Bool} {rest : JudgedScene A} {a : A} (r : SceneRefusal) → require test r rest ≡ Accepted a → (test ≡ true) × (rest ≡ Accepted a)
 require_accepted {test = true} r e = (refl, e)
 require_accepted {test = false} r e = absurd cc
 
@@ -63,7 +63,7 @@ pub record IsNew {X : Type 0} (number : X → ℕ) (P : X → Type 0) (before : 
 
 module _ {X : Type 0} (number : X → ℕ) (judge : List ℕ → List ℕ → Data → JudgedScene X) where
   pub one_gathered : (P : X → Type 0) → ((before path : List ℕ) (d : Data) (x : X) → judge before path d ≡ Accepted x → IsNew number P before x)
-      → (before after : List X) (path : List ℕ) (d : Data) → AreGathered number P before → gathered number judge before path d ≡ Accepted after → AreGathered number P after
+      → (before after : List X) (path : List ℕ) (d : Data) → AreGathered number P before → gather_one number judge before path d ≡ Accepted after → AreGathered number P after
   one_gathered P new before after path d g e = then_accepted (judge (map number before) path d) e (λ x f s.
       let n = new (map number before) path d x f in
       let rising : Rises (map number (insert_after (λ y. nat_lt (number y) (number x)) x before)) =
@@ -76,12 +76,12 @@ module _ {X : Type 0} (number : X → ℕ) (judge : List ℕ → List ℕ → Da
   pub all_gathered : (P : X → Type 0) → ((before path : List ℕ) (d : Data) (x : X) → judge before path d ≡ Accepted x → IsNew number P before x)
       → (path : List ℕ) (ds : Items) (xs : List X) → gather number judge path ds ≡ Accepted xs → AreGathered number P xs
   all_gathered P new path ds xs e =
-      in_turn_keeps (gathered number judge) (AreGathered number P) (one_gathered P new) path [] xs 0 ds (record { rising = tt; each = All-nil P }) e
+      in_turn_keeps (gather_one number judge) (AreGathered number P) (one_gathered P new) path [] xs 0 ds (record { rising = tt; each = All-nil P }) e
 
   -- one for each item
-  many_after : (path : List ℕ) (before after : List X) (i : ℕ) (ds : Items) → in_turn (gathered number judge) path before i ds ≡ Accepted after → length after ≡ length before + count_items ds
+  many_after : (path : List ℕ) (before after : List X) (i : ℕ) (ds : Items) → in_turn (gather_one number judge) path before i ds ≡ Accepted after → length after ≡ length before + count_items ds
   many_after path before after i no_items e = let s = same_accepted e in subst (λ (xs : List X). length xs ≡ length before + 0) s (omega arith)
-  many_after path before after i (item d ds) e = then_accepted (gathered number judge before (at_index path i) d) e (λ next f g. then_accepted (judge (map number before) (at_index path i) d) f (λ x k s.
+  many_after path before after i (item d ds) e = then_accepted (gather_one number judge before (at_index path i) d) e (λ next f g. then_accepted (judge (map number before) (at_index path i) d) f (λ x k s.
       let one = insert_length (λ y. nat_lt (number y) (number x)) x before in
       let ih = many_after path next after (i + 1) ds g in
       let long : length next ≡ suc (length before) = subst (λ (xs : List X). length xs ≡ suc (length before)) (same_accepted s) one in

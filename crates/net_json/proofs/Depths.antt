@@ -9,7 +9,7 @@ use Rattle.serde_json.specs.View.{items_of}
 use Rattle.fc_values.specs.Types.{LocalType, IntType, BoolType, PairType, leaves}
 use Rattle.fc_values.specs.Values.{LocalValue, IntValue, BoolValue, PairValue, Fits}
 use Rattle.fc_values.specs.BuiltinTypes.{inner}
-use Rattle.fc_nodes.specs.Terms.{type_of}
+use Rattle.fc_nodes.specs.Terms.{term_type}
 use Rattle.fc_nodes.specs.Program.{Unfolding}
 use Rattle.fc_nodes.specs.Flat.{IsWellTyped}
 use Rattle.fc_nodes.specs.Typing.{HasType}
@@ -51,7 +51,7 @@ module _ (U : Unfolding) (typed : HasType U.declared [] 0 U.main) where
       let n = term_narrow U.declared [] 0 U.main typed tt in
       let b = tree_back c IsNarrow IsShallow (shallow c) U.main 0 r.1.tree n.1 h.tree in
       let k = placed_depth (placed U.main 0 r.1.tree) b.values in
-      let v = shallow c (inner (type_of U.main)) r.1.value n.0 h.value in
+      let v = shallow c (inner (term_type U.main)) r.1.value n.0 h.value in
       let l = v.few in
       omega (arith, k, l)
 

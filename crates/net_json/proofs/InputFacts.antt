@@ -10,12 +10,12 @@ use Rattle.topology.specs.declared.types.NetFault.{NetFault}
 use Rattle.fc_values.specs.Inputs.{InputFits, InputsFit}
 use Rattle.topology.specs.Inputs.{input_fault}
 use Rattle.topology.proofs.Lemmas.{input_none}
-use Rattle.net_json.specs.Judging.{JudgedScene, Accepts, Accepted, Refused, Misshaped, and_then, given, no_fault, at_member}
+use Rattle.net_json.specs.Judging.{JudgedScene, Accepts, Accepted, Refused, Misshaped, if_accepted, given, no_fault, at_member}
 use Rattle.net_json.specs.Reading.{value_of, has_size}
 use Rattle.net_json.specs.declared.types.JsonFault.{JsonFault}
 use Rattle.net_json.specs.Inputs.{has_names, input_judged, values_judged, inputs_judged}
 
-pub then_accepted : {A B R : Type 0} (j : JudgedScene A) (next : A → JudgedScene B) (b : B) → and_then j next ≡ Accepted b → ((a : A) → j ≡ Accepted a → next a ≡ Accepted b → R) → R
+pub then_accepted : {A B R : Type 0} (j : JudgedScene A) (next : A → JudgedScene B) (b : B) → if_accepted j next ≡ Accepted b → ((a : A) → j ≡ Accepted a → next a ≡ Accepted b → R) → R
 then_accepted (Accepted a) next b e h = h a refl e
 then_accepted (Refused r) next b e h = absurd cc
 

@@ -10,14 +10,14 @@ use Rattle.fc_values.specs.Trees.{TreeExport}
 use Rattle.fc_values.specs.Types.{LocalType, IntType, BoolType, PairType}
 use Rattle.fc_values.specs.Values.{LocalValue, IntValue, BoolValue, PairValue, Fits}
 use Rattle.fc_values.specs.BuiltinTypes.{inner}
-use Rattle.fc_nodes.specs.Terms.{type_of, Term, Terms, Plain, Apply, Nbr, Evolve, If, Let, NoMore, More}
+use Rattle.fc_nodes.specs.Terms.{term_type, Term, Terms, Plain, Apply, Nbr, Evolve, If, Let, NoMore, More}
 use Rattle.fc_nodes.specs.Program.{Unfolding}
 use Rattle.fc_nodes.specs.Flat.{IsWellTyped}
 use Rattle.value_trees.proofs.ReadBack.{type_had}
 use Rattle.topology.specs.Networks.{Network, Lives}
 use Rattle.fc_values.specs.Lists.{insert_after}
 use Rattle.net_json.specs.Reading.{value_of}
-use Rattle.net_json.specs.Judging.{JudgedScene, Accepted, and_then, in_turn, gathered, at_index, at_member}
+use Rattle.net_json.specs.Judging.{JudgedScene, Accepted, if_accepted, in_turn, gather_one, at_index, at_member}
 use Rattle.value_trees.specs.KeptItems.{KeptItem, take_tree}
 use Rattle.net_json.specs.KeptItems.{placed_item, kept_judged, item_of_places}
 use Rattle.net_json.specs.Exports.{whole_export, export_judged}
@@ -72,7 +72,7 @@ item_read x h before path = let e = h.back in rw e refl
 items_read : (path : List ℕ) (xs : List (ℕ × LocalValue)) (before : List KeptItem) (i : ℕ) → AllAre IsReadable xs → in_turn (kept_judged item_of_places) path before i (items_of (map placed_data xs)) ≡ Accepted (before ++ items xs)
 items_read path [] before i h = ap Accepted (sym (append-nil before))
 items_read path (x ∷ xs) before i h =
-    ap (λ (j : JudgedScene (List KeptItem)). and_then j (λ next. in_turn (kept_judged item_of_places) path next (i + 1) (items_of (map placed_data xs)))) (item_read x h.0 before (at_index path i))
+    ap (λ (j : JudgedScene (List KeptItem)). if_accepted j (λ next. in_turn (kept_judged item_of_places) path next (i + 1) (items_of (map placed_data xs)))) (item_read x h.0 before (at_index path i))
     ∙ items_read path xs (before ++ placed_item x ∷ []) (i + 1) h.1
     ∙ ap Accepted (append_assoc before (placed_item x ∷ []) (items xs))
 
@@ -84,11 +84,11 @@ module _ (U : Unfolding) (low : U.declared.ceiling ≤ 1000000) (path : List ℕ
       let c = U.declared.ceiling in
       let xs = placed U.main 0 e.tree in
       let b = tree_back c AnyType IsReadable (λ s v q k. readable c s v low k) U.main 0 e.tree (keeps_any U.main) h.tree in
-      let fits = type_had c (inner (type_of U.main)) e.value h.value in
+      let fits = type_had c (inner (term_type U.main)) e.value h.value in
       let read = items_read (at_member path (codes "kept")) xs [] 0 b.values in
       let taken : take_tree c U.main 0 (items xs) ≡ take_tree c U.main 0 (items xs ++ []) = ap (take_tree c U.main 0) (sym (append-nil (items xs))) in
       rw fits (
-      ap (λ (j : JudgedScene (List KeptItem)). and_then j (λ ys. whole_export U path e.value (take_tree c U.main 0 ys))) read
+      ap (λ (j : JudgedScene (List KeptItem)). if_accepted j (λ ys. whole_export U path e.value (take_tree c U.main 0 ys))) read
       ∙ ap (whole_export U path e.value) (taken ∙ b.taken []))
 
 -- ---- rows
@@ -131,17 +131,17 @@ module _ (U : Unfolding) (n : Network) (low : U.declared.ceiling ≤ 1000000) wh
       let c = U.declared.ceiling in
       let apart = below_apart r.0 before h in
       let export = export_back U low path r.1 typed in
-      rw (form_back U path r (readable c (inner (type_of U.main)) r.1.value low typed.value), there, apart, export) refl
+      rw (form_back U path r (readable c (inner (term_type U.main)) r.1.value low typed.value), there, apart, export) refl
 
   rows_back : (path : List ℕ) (rows before : List Row) (i : ℕ) → NextBelow before rows → Rises (map row_number rows) → All (λ (r : Row). Lives n r.0) rows → All (λ (r : Row). IsWellTyped U r.1) rows
-      → in_turn (gathered row_number (row_judged U n item_of_places)) path before i (items_of (map (row_data U) rows)) ≡ Accepted (before ++ rows)
+      → in_turn (gather_one row_number (row_judged U n item_of_places)) path before i (items_of (map (row_data U) rows)) ≡ Accepted (before ++ rows)
   rows_back path [] before i b r l t = ap Accepted (sym (append-nil before))
   rows_back path (x ∷ xs) before i b r l t =
-      let judge = gathered row_number (row_judged U n item_of_places) in
+      let judge = gather_one row_number (row_judged U n item_of_places) in
       let one : judge before (at_index path i) (row_data U x) ≡ Accepted (before ++ x ∷ [])
-      = ap (λ (j : JudgedScene Row). and_then j (λ y. Accepted (insert_after (λ z. nat_lt (row_number z) (row_number y)) y before))) (row_back (at_index path i) before x b (l 0 x (omega arith)) (t 0 x (omega arith)))
+      = ap (λ (j : JudgedScene Row). if_accepted j (λ y. Accepted (insert_after (λ z. nat_lt (row_number z) (row_number y)) y before))) (row_back (at_index path i) before x b (l 0 x (omega arith)) (t 0 x (omega arith)))
       ∙ ap Accepted (put_last x before b) in
-      ap (λ (j : JudgedScene (List Row)). and_then j (λ next. in_turn judge path next (i + 1) (items_of (map (row_data U) xs)))) one
+      ap (λ (j : JudgedScene (List Row)). if_accepted j (λ next. in_turn judge path next (i + 1) (items_of (map (row_data U) xs)))) one
       ∙ rows_back path xs (before ++ x ∷ []) (i + 1) (next_below before x xs b r) (rises_tail x.0 (map row_number xs) r) (λ k d m. l (suc k) d (omega arith)) (λ k d m. t (suc k) d (omega arith))
       ∙ ap Accepted (append_assoc before (x ∷ []) xs)
 
@@ -158,5 +158,5 @@ none_below (r ∷ rs) = tt
 
 pub table_back : TablesReadBack
 table_back U n path rows low h =
-    ap (λ (j : JudgedScene _). and_then j (λ ds. rows_judged U n item_of_places (at_member path (codes "rows")) ds)) (format_back U path rows)
+    ap (λ (j : JudgedScene _). if_accepted j (λ ds. rows_judged U n item_of_places (at_member path (codes "rows")) ds)) (format_back U path rows)
     ∙ rows_back U n low (at_member path (codes "rows")) rows [] 0 (none_below rows) h.rising h.there h.exports

@@ -13,7 +13,7 @@ use Rattle.topology.specs.declared.types.NetFault.TheVariants as fault
 use Rattle.topology.specs.Networks.{Network}
 use Rattle.fc_values.specs.Fields.{is_in}
 use Rattle.topology.specs.Changes.{in_metric}
-use Rattle.net_json.specs.Judging.{JudgedScene, Accepted, Misshaped, BadNetwork, and_then, given, require, gather, at_member}
+use Rattle.net_json.specs.Judging.{JudgedScene, Accepted, Misshaped, BadNetwork, if_accepted, given, require, gather, at_member}
 use Rattle.net_json.specs.Reading.{whole, value_of, two_members, four_members, size_of, count_items}
 use Rattle.net_json.specs.Inputs.{inputs_judged}
 use Rattle.net_json.specs.Devices.{live_number}
@@ -25,13 +25,13 @@ use Rattle.net_json.specs.Exports.{export_judged}
 -- the export of an object with exactly a value and a kept list, in format 1
 abbrev pub own_export : Unfolding → List ℕ → Data → JudgedScene TreeExport
 own_export U path d =
-    and_then (given (Misshaped path) (two_members (codes "value") (codes "kept") d)) (λ m.
-    and_then (given (Misshaped (at_member path (codes "value"))) (value_of m.0)) (λ v.
-    and_then (given (Misshaped (at_member path (codes "kept"))) (as_array m.1)) (λ ds.
+    if_accepted (given (Misshaped path) (two_members (codes "value") (codes "kept") d)) (λ m.
+    if_accepted (given (Misshaped (at_member path (codes "value"))) (value_of m.0)) (λ v.
+    if_accepted (given (Misshaped (at_member path (codes "kept"))) (as_array m.1)) (λ ds.
     export_judged U item_of_values path v ds)))
 
 abbrev pub some_export : JudgedScene TreeExport → JudgedScene (Option TreeExport)
-some_export e = and_then e (λ x. Accepted (Some x))
+some_export e = if_accepted e (λ x. Accepted (Some x))
 
 -- null, or an export
 abbrev pub own_judged : Unfolding → List ℕ → Data → JudgedScene (Option TreeExport)
@@ -56,12 +56,12 @@ pub record NearForm : Type 0 where
 
 abbrev pub near_form : List ℕ → Data → JudgedScene NearForm
 near_form path d =
-    and_then
+    if_accepted
     (given (Misshaped path) (four_members (codes "id") (codes "weight") (codes "value") (codes "kept") d)) (λ m.
-    and_then (given (Misshaped (at_member path (codes "id"))) (whole m.0.0)) (λ id.
-    and_then (given (Misshaped (at_member path (codes "weight"))) (whole m.0.1)) (λ w.
-    and_then (given (Misshaped (at_member path (codes "value"))) (value_of m.1.0)) (λ v.
-    and_then (given (Misshaped (at_member path (codes "kept"))) (as_array m.1.1)) (λ ds.
+    if_accepted (given (Misshaped (at_member path (codes "id"))) (whole m.0.0)) (λ id.
+    if_accepted (given (Misshaped (at_member path (codes "weight"))) (whole m.0.1)) (λ w.
+    if_accepted (given (Misshaped (at_member path (codes "value"))) (value_of m.1.0)) (λ v.
+    if_accepted (given (Misshaped (at_member path (codes "kept"))) (as_array m.1.1)) (λ ds.
     Accepted (record { id = id; weight = w; value = v; kept = ds }))))))
 
 -- The number of a neighbour is one that devices may have, that of another device, and of none before.
@@ -77,10 +77,10 @@ weight_judged D path w = require (in_metric D w) (BadNetwork path fault.Weight) 
 -- a neighbour beside the numbers of those before: its form, its number, its weight, its export
 abbrev pub near_judged : Unfolding → ℕ → List ℕ → List ℕ → Data → JudgedScene NearCopy
 near_judged U device before path d =
-    and_then (near_form path d) (λ form.
-    and_then (other_number device before (at_member path (codes "id")) form.id) (λ id.
-    and_then (weight_judged U.declared (at_member path (codes "weight")) form.weight) (λ w.
-    and_then (export_judged U item_of_values path form.value form.kept) (λ e.
+    if_accepted (near_form path d) (λ form.
+    if_accepted (other_number device before (at_member path (codes "id")) form.id) (λ id.
+    if_accepted (weight_judged U.declared (at_member path (codes "weight")) form.weight) (λ w.
+    if_accepted (export_judged U item_of_values path form.value form.kept) (λ e.
     Accepted (record { device = id; weight = w; export = e })))))
 
 abbrev pub near_number : NearCopy → ℕ
@@ -102,11 +102,12 @@ pub record CopyForm : Type 0 where
 
 abbrev pub copy_form : List ℕ → Data → JudgedScene CopyForm
 copy_form path d =
-    and_then (given (Misshaped path) (four_members (codes "id") (codes "inputs") (codes "own") (codes "near") d)) (λ m.
-    and_then (given (Misshaped (at_member path (codes "id"))) (whole m.0.0)) (λ id.
-    and_then (given (Misshaped (at_member path (codes "inputs"))) (size_of m.0.1)) (λ size.
+    if_accepted
+    (given (Misshaped path) (four_members (codes "id") (codes "inputs") (codes "own") (codes "near") d)) (λ m.
+    if_accepted (given (Misshaped (at_member path (codes "id"))) (whole m.0.0)) (λ id.
+    if_accepted (given (Misshaped (at_member path (codes "inputs"))) (size_of m.0.1)) (λ size.
     require (is_null_or_object m.1.0) (Misshaped (at_member path (codes "own")))
-    (and_then (given (Misshaped (at_member path (codes "near"))) (as_array m.1.1)) (λ ds.
+    (if_accepted (given (Misshaped (at_member path (codes "near"))) (as_array m.1.1)) (λ ds.
     Accepted (record { id = id; inputs = m.0.1; own = m.1.0; near = ds }))))))
 
 abbrev pub copy_number : Copy → ℕ
@@ -115,16 +116,16 @@ copy_number c = c.device
 -- the copy of a device: its inputs, its own export, its neighbours
 abbrev pub parts_judged : Unfolding → List ℕ → ℕ → CopyForm → JudgedScene Copy
 parts_judged U path device form =
-    and_then (inputs_judged U.declared.inputs (at_member path (codes "inputs")) form.inputs) (λ vs.
-    and_then (own_judged U (at_member path (codes "own")) form.own) (λ own.
-    and_then (nears_judged U device (at_member path (codes "near")) form.near) (λ ns.
+    if_accepted (inputs_judged U.declared.inputs (at_member path (codes "inputs")) form.inputs) (λ vs.
+    if_accepted (own_judged U (at_member path (codes "own")) form.own) (λ own.
+    if_accepted (nears_judged U device (at_member path (codes "near")) form.near) (λ ns.
     Accepted (record { device = device; inputs = vs; own = own; near = ns }))))
 
 -- a copy beside the numbers of those before: its form, its number as that of a row, its parts
 abbrev pub copy_judged : Unfolding → Network → List ℕ → List ℕ → Data → JudgedScene Copy
 copy_judged U n before path d =
-    and_then (copy_form path d) (λ form.
-    and_then (live_number n before (at_member path (codes "id")) form.id) (λ id. parts_judged U path id form))
+    if_accepted (copy_form path d) (λ form.
+    if_accepted (live_number n before (at_member path (codes "id")) form.id) (λ id. parts_judged U path id form))
 
 abbrev pub copies_judged : Unfolding → Network → List ℕ → Items → JudgedScene (List Copy)
 copies_judged U n path ds = gather copy_number (copy_judged U n) path ds

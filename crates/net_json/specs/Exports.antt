@@ -4,9 +4,9 @@ use Rattle.serde_json.specs.Data.{Data, Items}
 use Rattle.fc_values.specs.Values.{LocalValue}
 use Rattle.fc_values.specs.BuiltinTypes.{inner}
 use Rattle.fc_values.specs.Trees.{Tree, TreeExport}
-use Rattle.fc_nodes.specs.Terms.{type_of, size}
+use Rattle.fc_nodes.specs.Terms.{term_type, size}
 use Rattle.fc_nodes.specs.Program.{Unfolding}
-use Rattle.net_json.specs.Judging.{JudgedScene, Accepted, Refused, Misshaped, BadKept, and_then, require, in_turn, at_member}
+use Rattle.net_json.specs.Judging.{JudgedScene, Accepted, Refused, Misshaped, BadKept, if_accepted, require, in_turn, at_member}
 use Rattle.value_trees.specs.KeptReads.{has_type}
 use Rattle.value_trees.specs.KeptItems.{KeptItem, Taken, Took, Misfit, take_main}
 use Rattle.net_json.specs.KeptItems.{kept_judged}
@@ -21,6 +21,6 @@ whole_export U path v (Misfit p) = Refused (BadKept path p)
 -- export. The path is that of the object that has both.
 abbrev pub export_judged : Unfolding → (Data → Option KeptItem) → List ℕ → LocalValue → Items → JudgedScene TreeExport
 export_judged U read path v ds =
-    require (has_type U.declared.ceiling (inner (type_of U.main)) v) (Misshaped (at_member path (codes "value")))
-    (and_then (in_turn (kept_judged read) (at_member path (codes "kept")) [] 0 ds) (λ xs.
+    require (has_type U.declared.ceiling (inner (term_type U.main)) v) (Misshaped (at_member path (codes "value")))
+    (if_accepted (in_turn (kept_judged read) (at_member path (codes "kept")) [] 0 ds) (λ xs.
     whole_export U path v (take_main U xs)))

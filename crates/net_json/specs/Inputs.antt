@@ -6,7 +6,7 @@ use Rattle.fc_values.specs.declared.types.InputTy.{InputTy}
 use Rattle.fc_values.specs.Types.{Input}
 use Rattle.fc_values.specs.Values.{LocalValue}
 use Rattle.topology.specs.Inputs.{input_fault}
-use Rattle.net_json.specs.Judging.{JudgedScene, Accepted, Misshaped, and_then, given, require, no_fault, at_member}
+use Rattle.net_json.specs.Judging.{JudgedScene, Accepted, Misshaped, if_accepted, given, require, no_fault, at_member}
 use Rattle.net_json.specs.Reading.{value_of, has_size}
 
 -- the names of some inputs are members of an object
@@ -21,13 +21,14 @@ has_exactly is d = has_size (length is) d && has_names is d
 -- the value of one input: a value by its form, then of the declared type, then in its range
 abbrev pub input_judged : InputTy → List ℕ → Option Data → JudgedScene LocalValue
 input_judged ty path d =
-    and_then (given (Misshaped path) (option_and_then value_of d)) (λ v. no_fault (input_fault ty v) path (Accepted v))
+    if_accepted (given (Misshaped path) (option_and_then value_of d)) (λ v.
+    no_fault (input_fault ty v) path (Accepted v))
 
 -- the values of the inputs one by one, in declared order, behind those before
 abbrev pub values_judged : List ℕ → Data → List LocalValue → List Input → JudgedScene (List LocalValue)
 values_judged path d before [] = Accepted before
 values_judged path d before (i ∷ is) =
-    and_then (input_judged i.type (at_member path i.name) (get i.name d)) (λ v.
+    if_accepted (input_judged i.type (at_member path i.name) (get i.name d)) (λ v.
     values_judged path d (before ++ v ∷ []) is)
 
 abbrev pub inputs_judged : List Input → List ℕ → Data → JudgedScene (List LocalValue)

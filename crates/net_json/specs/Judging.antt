@@ -11,28 +11,28 @@ use Rattle.net_json.specs.declared.types.JsonFault.TheVariants as fault
 
 -- Why a text is no scene: it is no JSON, or at a path it has another shape, a fault of networks, or a kept list that no
 -- export has, with the place of its first misfit; or it has too many devices.
-pub data Refusal : Type 0 where
-  NotJson : Refusal
-  Misshaped : List ℕ → Refusal
-  BadNetwork : List ℕ → NetFault → Refusal
-  BadKept : List ℕ → ℕ → Refusal
-  TooManyDevices : ℕ → Refusal
+pub data SceneRefusal : Type 0 where
+  NotJson : SceneRefusal
+  Misshaped : List ℕ → SceneRefusal
+  BadNetwork : List ℕ → NetFault → SceneRefusal
+  BadKept : List ℕ → ℕ → SceneRefusal
+  TooManyDevices : ℕ → SceneRefusal
 
 abbrev pub JudgedScene : Type 0 → Type 0
-JudgedScene A = Judgement Refusal A
+JudgedScene A = Judgement SceneRefusal A
 
 -- one check after another: the first refusal counts
-abbrev pub and_then : {A B : Type 0} → JudgedScene A → (A → JudgedScene B) → JudgedScene B
-and_then (Accepted x) next = next x
-and_then (Refused r) next = Refused r
+abbrev pub if_accepted : {A B : Type 0} → JudgedScene A → (A → JudgedScene B) → JudgedScene B
+if_accepted (Accepted x) next = next x
+if_accepted (Refused r) next = Refused r
 
 -- what is there, else a refusal
-abbrev pub given : {A : Type 0} → Refusal → Option A → JudgedScene A
+abbrev pub given : {A : Type 0} → SceneRefusal → Option A → JudgedScene A
 given r None = Refused r
 given r (Some x) = Accepted x
 
 -- the rest where a test holds, else a refusal
-abbrev pub require : {A : Type 0} → Bool → Refusal → JudgedScene A → JudgedScene A
+abbrev pub require : {A : Type 0} → Bool → SceneRefusal → JudgedScene A → JudgedScene A
 require test r rest = if test then rest else Refused r
 
 -- the rest where networks have no fault to name, else that fault at a path
@@ -51,19 +51,19 @@ at_index path i = path ++ 47 ∷ decimal i
 abbrev pub in_turn : {A : Type 0} → (A → List ℕ → Data → JudgedScene A) → List ℕ → A → ℕ → Items → JudgedScene A
 in_turn judge path before i no_items = Accepted before
 in_turn judge path before i (item d ds) =
-    and_then (judge before (at_index path i) d) (λ next. in_turn judge path next (i + 1) ds)
+    if_accepted (judge before (at_index path i) d) (λ next. in_turn judge path next (i + 1) ds)
 
 -- one thing more beside those before, all by rising numbers. It is judged beside the numbers of those before
-abbrev pub gathered : {X : Type 0} → (X → ℕ) → (List ℕ → List ℕ → Data → JudgedScene X)
+abbrev pub gather_one : {X : Type 0} → (X → ℕ) → (List ℕ → List ℕ → Data → JudgedScene X)
     → List X → List ℕ → Data → JudgedScene (List X)
-gathered number judge before path d =
-    and_then (judge (map number before) path d) (λ x.
+gather_one number judge before path d =
+    if_accepted (judge (map number before) path d) (λ x.
     Accepted (insert_after (λ y. nat_lt (number y) (number x)) x before))
 
 -- the things that items give, by rising numbers
 abbrev pub gather : {X : Type 0} → (X → ℕ) → (List ℕ → List ℕ → Data → JudgedScene X)
     → List ℕ → Items → JudgedScene (List X)
-gather number judge path ds = in_turn (gathered number judge) path [] 0 ds
+gather number judge path ds = in_turn (gather_one number judge) path [] 0 ds
 
 -- a fault in code is the refusal of a judgement. Want of memory is always allowed
 abbrev pub RefusedWith : {A : Type 0} → JudgedScene A → JsonFault → Type 0

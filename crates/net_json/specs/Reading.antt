@@ -23,9 +23,9 @@ small d = option_and_then if_small (whole d)
 abbrev pub integer_value : ℕ → LocalValue
 integer_value n = IntValue (min n 4294967295)
 
-abbrev pub both : {A B : Type 0} → Option A → Option B → Option (A × B)
-both (Some a) (Some b) = Some (a, b)
-both _ _ = None
+abbrev pub both_some : {A B : Type 0} → Option A → Option B → Option (A × B)
+both_some (Some a) (Some b) = Some (a, b)
+both_some _ _ = None
 
 abbrev pub pair_value : LocalValue × LocalValue → LocalValue
 pair_value p = PairValue p.0 p.1
@@ -38,7 +38,7 @@ value_of (number n) = option_map integer_value (as_u64 n)
 value_of (string s) = None
 value_of (array no_items) = None
 value_of (array (item a no_items)) = None
-value_of (array (item a (item b no_items))) = option_map pair_value (both (value_of a) (value_of b))
+value_of (array (item a (item b no_items))) = option_map pair_value (both_some (value_of a) (value_of b))
 value_of (array (item a (item b (item c ds)))) = None
 value_of (object ms) = None
 
@@ -63,10 +63,11 @@ has_size n d = is_exactly n (size_of d)
 
 -- the members of two, three or four names, of an object that has exactly these
 abbrev pub two_members : List ℕ → List ℕ → Data → Option (Data × Data)
-two_members a b d = if has_size 2 d then both (get a d) (get b d) else None
+two_members a b d = if has_size 2 d then both_some (get a d) (get b d) else None
 
 abbrev pub three_members : List ℕ → List ℕ → List ℕ → Data → Option (Data × (Data × Data))
-three_members a b c d = if has_size 3 d then both (get a d) (both (get b d) (get c d)) else None
+three_members a b c d = if has_size 3 d then both_some (get a d) (both_some (get b d) (get c d)) else None
 
 abbrev pub four_members : List ℕ → List ℕ → List ℕ → List ℕ → Data → Option ((Data × Data) × (Data × Data))
-four_members a b c e d = if has_size 4 d then both (both (get a d) (get b d)) (both (get c d) (get e d)) else None
+four_members a b c e d =
+    if has_size 4 d then both_some (both_some (get a d) (get b d)) (both_some (get c d) (get e d)) else None

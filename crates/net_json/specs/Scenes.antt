@@ -7,8 +7,8 @@ use Rattle.serde_json.specs.Read.{read}
 use Rattle.fc_values.specs.Trees.{Copy}
 use Rattle.fc_nodes.specs.Program.{Unfolding}
 use Rattle.topology.specs.Networks.{Network, network_of}
-use Rattle.net_json.specs.Judging.{JudgedScene, Accepted, Refused, NotJson, Misshaped, and_then, given, require, at_member}
-use Rattle.net_json.specs.Reading.{both, has_size}
+use Rattle.net_json.specs.Judging.{JudgedScene, Accepted, Refused, NotJson, Misshaped, if_accepted, given, require, at_member}
+use Rattle.net_json.specs.Reading.{both_some, has_size}
 use Rattle.net_json.specs.Devices.{devices_judged}
 use Rattle.net_json.specs.Links.{links_judged}
 use Rattle.net_json.specs.Tables.{Row, table_judged}
@@ -36,7 +36,7 @@ one_if_there (Some d) = 1
 abbrev pub scene_members : Data → Option (Data × Data)
 scene_members d =
     if has_size (2 + one_if_there (get (codes "table") d) + one_if_there (get (codes "pending") d)) d
-    then both (get (codes "devices") d) (get (codes "links") d)
+    then both_some (get (codes "devices") d) (get (codes "links") d)
     else None
 
 abbrev pub is_table : Data → Bool
@@ -56,11 +56,11 @@ pub record SceneForm : Type 0 where
 
 abbrev pub scene_form : Data → JudgedScene SceneForm
 scene_form d =
-    and_then (given (Misshaped []) (scene_members d)) (λ m.
-    and_then (given (Misshaped (scene_path (codes "devices"))) (as_array m.0)) (λ devices.
-    and_then (given (Misshaped (scene_path (codes "links"))) (as_array m.1)) (λ links.
+    if_accepted (given (Misshaped []) (scene_members d)) (λ m.
+    if_accepted (given (Misshaped (scene_path (codes "devices"))) (as_array m.0)) (λ devices.
+    if_accepted (given (Misshaped (scene_path (codes "links"))) (as_array m.1)) (λ links.
     require (is_table (or_empty (get (codes "table") d))) (Misshaped (scene_path (codes "table")))
-    (and_then
+    (if_accepted
     (given (Misshaped (scene_path (codes "pending"))) (as_array (or_empty (get (codes "pending") d)))) (λ pending.
     Accepted (record {
       devices = devices;
@@ -72,16 +72,16 @@ scene_form d =
 -- the network of a scene: its devices, then its links
 abbrev pub network_judged : Unfolding → Items → Items → JudgedScene Network
 network_judged U devices links =
-    and_then (devices_judged U.declared.inputs (scene_path (codes "devices")) devices) (λ ds.
+    if_accepted (devices_judged U.declared.inputs (scene_path (codes "devices")) devices) (λ ds.
     links_judged (scene_path (codes "links")) (network_of U.declared ds []) links)
 
 -- a scene: its form, then devices, links, rows and copies
 abbrev pub scene_judged : Unfolding → Data → JudgedScene SceneValue
 scene_judged U d =
-    and_then (scene_form d) (λ form.
-    and_then (network_judged U form.devices form.links) (λ n.
-    and_then (table_judged U n (scene_path (codes "table")) form.table) (λ rows.
-    and_then (copies_judged U n (scene_path (codes "pending")) form.pending) (λ copies.
+    if_accepted (scene_form d) (λ form.
+    if_accepted (network_judged U form.devices form.links) (λ n.
+    if_accepted (table_judged U n (scene_path (codes "table")) form.table) (λ rows.
+    if_accepted (copies_judged U n (scene_path (codes "pending")) form.pending) (λ copies.
     Accepted (record { net = n; table = rows; pending = copies })))))
 
 -- the JSON value of a text: what `serde_json` reads in a text of UTF-8

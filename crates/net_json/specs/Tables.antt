@@ -6,7 +6,7 @@ use Rattle.fc_values.specs.Values.{LocalValue}
 use Rattle.fc_values.specs.Trees.{TreeExport}
 use Rattle.fc_nodes.specs.Program.{Unfolding}
 use Rattle.topology.specs.Networks.{Network}
-use Rattle.net_json.specs.Judging.{JudgedScene, Accepted, Misshaped, and_then, given, require, gather, at_member}
+use Rattle.net_json.specs.Judging.{JudgedScene, Accepted, Misshaped, if_accepted, given, require, gather, at_member}
 use Rattle.net_json.specs.Reading.{whole, value_of, two_members, three_members, is_exactly}
 use Rattle.net_json.specs.Devices.{live_number}
 use Rattle.value_trees.specs.KeptItems.{KeptItem}
@@ -28,18 +28,18 @@ pub record RowForm : Type 0 where
 
 abbrev pub row_form : List ℕ → Data → JudgedScene RowForm
 row_form path d =
-    and_then (given (Misshaped path) (three_members (codes "id") (codes "value") (codes "kept") d)) (λ m.
-    and_then (given (Misshaped (at_member path (codes "id"))) (whole m.0)) (λ id.
-    and_then (given (Misshaped (at_member path (codes "value"))) (value_of m.1.0)) (λ v.
-    and_then (given (Misshaped (at_member path (codes "kept"))) (as_array m.1.1)) (λ ds.
+    if_accepted (given (Misshaped path) (three_members (codes "id") (codes "value") (codes "kept") d)) (λ m.
+    if_accepted (given (Misshaped (at_member path (codes "id"))) (whole m.0)) (λ id.
+    if_accepted (given (Misshaped (at_member path (codes "value"))) (value_of m.1.0)) (λ v.
+    if_accepted (given (Misshaped (at_member path (codes "kept"))) (as_array m.1.1)) (λ ds.
     Accepted (record { id = id; value = v; kept = ds })))))
 
 -- a row beside the numbers of those before: its form, its number, its export
 abbrev pub row_judged : Unfolding → Network → (Data → Option KeptItem) → List ℕ → List ℕ → Data → JudgedScene Row
 row_judged U n read before path d =
-    and_then (row_form path d) (λ form.
-    and_then (live_number n before (at_member path (codes "id")) form.id) (λ id.
-    and_then (export_judged U read path form.value form.kept) (λ e. Accepted (id, e))))
+    if_accepted (row_form path d) (λ form.
+    if_accepted (live_number n before (at_member path (codes "id")) form.id) (λ id.
+    if_accepted (export_judged U read path form.value form.kept) (λ e. Accepted (id, e))))
 
 abbrev pub rows_judged : Unfolding → Network → (Data → Option KeptItem) → List ℕ → Items → JudgedScene (List Row)
 rows_judged U n read path ds = gather row_number (row_judged U n read) path ds
@@ -47,14 +47,14 @@ rows_judged U n read path ds = gather row_number (row_judged U n read) path ds
 -- an object of format 2: exactly the members `format`, which is the number 2, and `rows`, an array
 abbrev pub second_format : List ℕ → Data → JudgedScene Items
 second_format path d =
-    and_then (given (Misshaped path) (two_members (codes "format") (codes "rows") d)) (λ m.
+    if_accepted (given (Misshaped path) (two_members (codes "format") (codes "rows") d)) (λ m.
     require (is_exactly 2 (whole m.0)) (Misshaped (at_member path (codes "format")))
     (given (Misshaped (at_member path (codes "rows"))) (as_array m.1)))
 
 -- a table of format 2
 abbrev pub second_judged : Unfolding → Network → List ℕ → Data → JudgedScene (List Row)
 second_judged U n path d =
-    and_then (second_format path d) (λ ds. rows_judged U n item_of_places (at_member path (codes "rows")) ds)
+    if_accepted (second_format path d) (λ ds. rows_judged U n item_of_places (at_member path (codes "rows")) ds)
 
 -- a table: an array of rows of format 1, or an object of format 2
 abbrev pub array_or : Unfolding → Network → List ℕ → Option Items → JudgedScene (List Row) → JudgedScene (List Row)

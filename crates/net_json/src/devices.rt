@@ -4,10 +4,10 @@ ghost use Rattle.std.specs.Prelude.{◌≡◌, IfOk, map, codes};
 ghost use Rattle.serde_json.specs.View.{view, items_view};
 ghost use Rattle.fc_values.specs.Types.{input_of};
 ghost use Rattle.fc_values.specs.Fields.{Rises};
-ghost use Rattle.topology.specs.Networks.{device_of, numbers};
+ghost use Rattle.topology.specs.Networks.{net_device_of, numbers};
 ghost use Rattle.net_json.specs.PlaceCode.{path_of};
 ghost use Rattle.net_json.specs.Judging.{at_member, Accepts, Refuses};
-ghost use Rattle.net_json.specs.Devices.{device_form, device_number, device_judged, number_of, devices_judged};
+ghost use Rattle.net_json.specs.Devices.{device_form, device_number, device_judged, number_of_device, devices_judged};
 ghost use Rattle.net_json.specs.Places.{IsPlace};
 
 use crate::inputs::{Wanted, read_inputs, wanted_inputs};
@@ -73,16 +73,16 @@ struct Devices<'d> {
 }
 
 impl Reader for Devices<'_> {
-    ghost use Rattle.topology.specs.Networks.{NetDevice, device_of};
-    ghost use Rattle.net_json.specs.Devices.{device_judged, number_of};
+    ghost use Rattle.topology.specs.Networks.{NetDevice, net_device_of};
+    ghost use Rattle.net_json.specs.Devices.{device_judged, number_of_device};
 
     type Thing = Device;
 
     ghost Meaning = { NetDevice };
 
-    ghost meaning = { λ _ d. device_of d };
+    ghost meaning = { λ _ d. net_device_of d };
 
-    ghost number = { number_of };
+    ghost number = { number_of_device };
 
     ghost judge = { λ s. device_judged s.inputs.now };
 
@@ -109,7 +109,7 @@ fn read_device(
     value: &Value,
 ) -> Result<Found<Device>, JsonFault>
     requires { Rises numbers.now }
-    ensures ok { Accepts result (λ d. device_of d.thing)
+    ensures ok { Accepts result (λ d. net_device_of d.thing)
         (device_judged inputs.now numbers.now (path_of here.now) (view value.now)) }
     ensures place { IfOk result (λ d. IsPlace numbers.now d.number d.at) }
     ensures number { IfOk result (λ d. d.number ≡ d.thing.id) }
@@ -133,7 +133,7 @@ pub(crate) fn read_devices(
     here: &Place<'_>,
     items: &[Value],
 ) -> Result<Vec<Device>, JsonFault>
-    ensures ok { Accepts result (λ ds. map device_of ds.items)
+    ensures ok { Accepts result (λ ds. map net_device_of ds.items)
         (devices_judged (map input_of inputs.now) (path_of here.now) (items_view items.now)) }
     ensures refused { Refuses result
         (devices_judged (map input_of inputs.now) (path_of here.now) (items_view items.now)) }

@@ -4,7 +4,7 @@ ghost use Rattle.std.specs.Prelude.{◌≡◌, IsTrue, IfOk, map};
 ghost use Rattle.serde_json.specs.View.{items_view};
 ghost use Rattle.fc_values.specs.Values.{local_of};
 ghost use Rattle.fc_values.specs.BuiltinTypes.{inner as inner_type};
-ghost use Rattle.fc_nodes.specs.Terms.{type_of};
+ghost use Rattle.fc_nodes.specs.Terms.{term_type};
 ghost use Rattle.fc_nodes.specs.Program.{unfolding_of};
 ghost use Rattle.value_trees.specs.KeptReads.{has_type};
 ghost use Rattle.value_trees.specs.Snaps.{tree_of, IsExportOf};
@@ -74,7 +74,7 @@ fn export_of_items(
 // The test of a value against the type of `main`, as the definitions have it.
 fn value_fits(program: &Unfolded, value: &Local) -> bool
     ensures test { let U = unfolding_of program.now in
-        result ≡ has_type U.declared.ceiling (inner_type (type_of U.main)) (local_of value.now) }
+        result ≡ has_type U.declared.ceiling (inner_type (term_type U.main)) (local_of value.now) }
     ensures fits { IsTrue result → FitsMain (unfolding_of program.now) (local_of value.now) }
 {
     fits_main(program, value)

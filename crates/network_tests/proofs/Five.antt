@@ -3,7 +3,7 @@ use Rattle.std.proofs.Common.{◌≡◌, ◌≤◌, ℕ, List, [], ◌∷◌, �
 use Rattle.fc_values.specs.Types.{IntType, TypeLocal, Declarations}
 use Rattle.fc_values.specs.Values.{IntValue}
 use Rattle.fc_nodes.specs.declared.nodes.Node.{Node}
-use Rattle.fc_nodes.specs.Terms.{Literal, Term, Plain, type_of, size, OfLeaf, Has, view_of, term_at, Laid, Later, KidsLater}
+use Rattle.fc_nodes.specs.Terms.{Literal, Term, Plain, term_type, size, OfLeaf, Has, view_of, term_at, Laid, Later, KidsLater}
 use Rattle.fc_nodes.specs.Typing.{HasType}
 use Rattle.fc_nodes.specs.Program.{IsLawful, IsProgram}
 use Rattle.fc_nodes.proofs.Places.{all_above}
@@ -19,7 +19,7 @@ is_program D x n lawful fits none seen = record {
   lawful = lawful;
   formed = record { later = later; laid = subst (Laid (x ∷ []) 0) (sym is) laid; whole = ap size (sym is) };
   typed = subst (HasType D [] 0) (sym is) (refl, fits);
-  root = (IntType, ap type_of is);
+  root = (IntType, ap term_type is);
   short = omega arith;
 }
   where

@@ -2,7 +2,7 @@
 
 ghost use Rattle.std.specs.Prelude.{◌≡◌, ◌≤◌, ◌∷◌, ℕ, [], IfOk, IfSome, map, None};
 ghost use Rattle.fc_values.specs.Types.{declarations_of};
-ghost use Rattle.topology.specs.Networks.{device_of};
+ghost use Rattle.topology.specs.Networks.{net_device_of};
 ghost use Rattle.topology.specs.Changes.{HaveNumbers, HaveInputs};
 ghost use Rattle.firing_core.specs.Cores.{EditFits};
 ghost use Rattle.firing_core.specs.CoreViews.{core_of};

@@ -9,7 +9,7 @@ use Rattle.fc_values.specs.Fields.{entry_of as field_entry}
 use Rattle.fc_values.specs.Types.{Input, input_of}
 use Rattle.fc_values.specs.Values.{LocalValue, local_of}
 use Rattle.topology.specs.declared.types.Device.{Device}
-use Rattle.topology.specs.Networks.{NetDevice, device_of}
+use Rattle.topology.specs.Networks.{NetDevice, net_device_of}
 use Rattle.firing_core.specs.declared.entries.Entry.{Entry}
 use Rattle.firing_core.specs.Cores.{Core}
 use Rattle.firing_core.specs.Entries.{entry_of}
@@ -30,7 +30,7 @@ abbrev pub core_line : Core → NetDevice → List ℕ
 core_line core d = device_line d.id (option_map export_value (core.exports d.id))
 
 abbrev pub devices_of : Core → List Device → List ℕ
-devices_of core xs = flat_map (core_line core) (map device_of xs)
+devices_of core xs = flat_map (core_line core) (map net_device_of xs)
 
 abbrev pub lines_of : List Input → List Entry → List ℕ
 lines_of inputs xs = flat_map (entry_line inputs) (map entry_of xs)

@@ -2,7 +2,7 @@
 use Rattle.std.proofs.Common.{◌≡◌, ℕ, ◌<◌, Some, length, sym, ap, ◌∙◌}
 use Rattle.fc_values.specs.Types.{type_of as type_of_value}
 use Rattle.fc_nodes.specs.declared.nodes.Node.{Node}
-use Rattle.fc_nodes.specs.Terms.{Term, Plain, Apply, Nbr, Evolve, If, Let, type_of, sort_of, view_of, view_at, term_at, Laid}
+use Rattle.fc_nodes.specs.Terms.{Term, Plain, Apply, Nbr, Evolve, If, Let, term_type, sort_of, view_of, view_at, term_at, Laid}
 use Rattle.fc_nodes.specs.Subterms.{subterm_at}
 use Rattle.fc_nodes.specs.Program.{IsProgram, Program, unfolding_of}
 use Rattle.fc_nodes.proofs.Subterms.{subterm_is}
@@ -11,7 +11,7 @@ use Rattle.report.specs.Facts.{root_sort}
 
 pub record IsRoot (n : Node) (u : Term) : Type 0 where
   pub sort : sort_of n.op ≡ root_sort u
-  pub ty : type_of_value n.ty ≡ type_of u
+  pub ty : type_of_value n.ty ≡ term_type u
 
 laid_root : (P : Program) (p : ℕ) (n : Node) (u : Term) → view_at P.nodes p ≡ Some (view_of n) → Laid P.nodes p u → IsRoot n u
 laid_root P p n (Plain t l) e h = let k = h in record { sort = cc; ty = cc }
@@ -25,4 +25,4 @@ pub part_root : (P : Program) → IsProgram P → (p : ℕ) (n : Node) → p < l
 part_root P is p n l e =
     let root = laid_root P p n (term_at P.nodes p) e (each_stands P.nodes is.formed p l).laid in
     let part = sym (subterm_is P.nodes is.formed p) in
-    record { sort = root.sort ∙ ap root_sort part; ty = root.ty ∙ ap type_of part }
+    record { sort = root.sort ∙ ap root_sort part; ty = root.ty ∙ ap term_type part }

@@ -5,7 +5,7 @@ use Rattle.fc_values.specs.declared.builtins.Builtin.{Builtin}
 use Rattle.fc_values.specs.declared.builtins.Builtin.TheVariants as op
 use Rattle.fc_values.specs.Types.{ValueType}
 use Rattle.fc_syntax.specs.Text.{builtin_word, type_text}
-use Rattle.fc_nodes.specs.Terms.{Leaf, Literal, Variable, Sense, Uid, NbrLink, ByRep, ByShare, Term, Plain, Apply, Nbr, Evolve, If, Let, type_of, size, Sort, OfLeaf, OfApply, OfNbr, OfEvolve, OfIf, OfLet}
+use Rattle.fc_nodes.specs.Terms.{Leaf, Literal, Variable, Sense, Uid, NbrLink, ByRep, ByShare, Term, Plain, Apply, Nbr, Evolve, If, Let, term_type, size, Sort, OfLeaf, OfApply, OfNbr, OfEvolve, OfIf, OfLet}
 use Rattle.fc_nodes.specs.Subterms.{subterm_at}
 use Rattle.fc_nodes.specs.Program.{Unfolding}
 use Rattle.interval_facts.specs.Ranges.{RangeValue, IntRange, BoolRange, PairRange}
@@ -59,7 +59,7 @@ node_text place s t = decimal place ++ codes " " ++ sort_text s ++ codes " " ++ 
 -- the line of the node at the root of a term: behind it its range and its level
 abbrev pub fact_line : ℕ → Term → RangeValue → Option ℕ → List ℕ
 fact_line place u range level =
-    node_text place (root_sort u) (type_of u)
+    node_text place (root_sort u) (term_type u)
     ++ codes " " ++ range_text range ++ codes " " ++ level_text level ++ codes "\n"
 
 abbrev pub fact_at : Unfolding → List RangeValue → List (Option ℕ) → ℕ → List ℕ

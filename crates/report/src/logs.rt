@@ -4,7 +4,7 @@ ghost use Rattle.std.specs.Prelude.{◌≡◌, ◌++◌, IfOk, OnOk, OnErr, map}
 ghost use Rattle.fc_values.specs.Exports.{slots_of};
 ghost use Rattle.fc_values.specs.Types.{input_of};
 ghost use Rattle.fc_values.specs.Values.{local_of};
-ghost use Rattle.topology.specs.Networks.{device_of};
+ghost use Rattle.topology.specs.Networks.{net_device_of};
 ghost use Rattle.firing_core.specs.Entries.{edit_of, entries_of, entry_of};
 ghost use Rattle.value_trees.specs.KeptLists.{kept_only};
 ghost use Rattle.report.specs.Logs.{edit_text, entry_line, input_name, join_text, log_text};
@@ -94,7 +94,7 @@ fn write_edit(
 
 // Appends the join of a device.
 fn write_join(alloc: Global, out: &mut Vec<u8>, device: &Device) -> Result<(), Memory>
-    ensures { OnOk result (out.new.items ≡ out.old.items ++ join_text (device_of device.now)) }
+    ensures { OnOk result (out.new.items ≡ out.old.items ++ join_text (net_device_of device.now)) }
 {
     let id = device.id;
     out.extend_from_slice(format!(in alloc; "join {id}")?.as_bytes())?;

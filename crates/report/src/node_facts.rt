@@ -3,7 +3,7 @@
 ghost use Rattle.std.specs.Prelude.{◌≡◌, ◌<◌, ◌++◌, IfOk, OnOk, OnErr, length};
 ghost use Rattle.fc_values.specs.Types.{type_of as type_of_value};
 ghost use Rattle.fc_nodes.specs.Subterms.{subterm_at};
-ghost use Rattle.fc_nodes.specs.Terms.{sort_of, type_of};
+ghost use Rattle.fc_nodes.specs.Terms.{sort_of, term_type};
 ghost use Rattle.fc_nodes.specs.Program.{unfolding_of};
 ghost use Rattle.interval_facts.specs.Ranges.{AreRangesOf, range_value};
 ghost use Rattle.report.specs.Facts.{fact_line, facts_text, level_text, mark_text, node_text, range_text, root_sort};
@@ -86,7 +86,7 @@ fn write_fact(
 fn node_at(program: &Unfolded, place: u32) -> &Node
     requires { place < length program.now.nodes }
     ensures sort { sort_of result.now.op ≡ root_sort (subterm_at place (unfolding_of program.now).main) }
-    ensures ty { type_of_value result.now.ty ≡ type_of (subterm_at place (unfolding_of program.now).main) }
+    ensures ty { type_of_value result.now.ty ≡ term_type (subterm_at place (unfolding_of program.now).main) }
 {
     program.node(place)
 }

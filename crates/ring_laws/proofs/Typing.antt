@@ -6,7 +6,7 @@ use Rattle.fc_values.specs.BuiltinTypes.{takes_add, takes_mux, folds_min}
 use Rattle.fc_values.specs.Names.{IsName, word_of}
 use Rattle.fc_values.specs.Types.{IntType, TypeLocal, TypeField}
 use Rattle.fc_syntax.specs.Printable.{IsPrintable}
-use Rattle.fc_types.specs.Before.{Before, Scope, nothing, and_all, bind}
+use Rattle.fc_types.specs.Before.{Earlier, Scope, nothing_declared, with_declarations, with_variable}
 use Rattle.fc_types.specs.Typing.{HasType, IsTyped, no_types, more_types, int_type, variable_type, nbr_link_type, sense_type, builtin_type, nbr_type, rep_type}
 use Rattle.scramble.specs.Rings.{hops, own_hops, ring_program}
 use Rattle.ring_laws.specs.Laws.{RingsAreTyped}
@@ -41,11 +41,11 @@ printable count h =
     )
 
 -- under what the declarations before `main` declare
-abbrev known : ℕ → Before
-known count = and_all nothing (ring_program count)
+abbrev known : ℕ → Earlier
+known count = with_declarations nothing_declared (ring_program count)
 
 abbrev inside : Scope
-inside = bind (codes "d") (TypeLocal IntType) []
+inside = with_variable (codes "d") (TypeLocal IntType) []
 
 near_typed : (count : ℕ) → HasType (known count) inside hops (TypeField IntType)
 near_typed count =

@@ -4,7 +4,7 @@ use Rattle.fc_values.specs.declared.builtins.Builtin.TheVariants as op
 use Rattle.fc_values.specs.Types.{LocalType, IntType, ValueType, TypeLocal, TypeField}
 use Rattle.fc_values.specs.Values.{LocalValue, IntValue, BoolValue, PairValue, Fits}
 use Rattle.fc_values.specs.BuiltinTypes.{Takes, takes_rise, inner, inners, is_field, has_field, lifted, HasRule}
-use Rattle.fc_nodes.specs.Terms.{type_of, size}
+use Rattle.fc_nodes.specs.Terms.{term_type, size}
 use Rattle.interval_facts.specs.Ranges.{InRange, full, term_range}
 use Rattle.interval_facts.specs.Solutions.{ValueMap, FitsOn, local_map, Solves}
 use Rattle.interval_facts.specs.Claims.{MapLiesIn}
@@ -51,8 +51,8 @@ pub without_rise_in_scope : SolvesWithoutRiseInScope
 without_rise_in_scope N D bs cs V f x p t s net metric live fit hold typed some =
     (λ h. (all h.0).0 h, λ h. (all (own h.0)).1 h)
   where
-    integers : AreIntegers (type_of t) (type_of s)
-    integers = are_integers (type_of t) (type_of s) typed.0
+    integers : AreIntegers (term_type t) (term_type s)
+    integers = are_integers (term_type t) (term_type s) typed.0
 
     own : Solves N (suc p) t D (in_body x f V) (local_map f) → FitsOn N D (TypeLocal IntType) (local_map f)
     own h = let i = integers in subst (λ y. FitsOn N D y (local_map f)) i.first (fits_of N t (suc p) D (in_body x f V) (local_map f) h)

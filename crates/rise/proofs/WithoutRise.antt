@@ -7,9 +7,9 @@ use Rattle.fc_values.specs.Types.{IntType, ValueType, TypeLocal}
 use Rattle.fc_values.specs.Values.{LocalValue, IntValue, BoolValue, PairValue}
 use Rattle.fc_values.specs.Fields.{AnyValue, ValueLocal, ValueField, FitsOver, restricted}
 use Rattle.fc_values.specs.Builtins.{builtin_value}
-use Rattle.fc_nodes.specs.Terms.{Variable, Term, Plain, Apply, Nbr, Evolve, If, Let, NoMore, More, type_of, size}
+use Rattle.fc_nodes.specs.Terms.{Variable, Term, Plain, Apply, Nbr, Evolve, If, Let, NoMore, More, term_type, size}
 use Rattle.topology.specs.Networks.{Network}
-use Rattle.topology.specs.Nearby.{near_numbers}
+use Rattle.topology.specs.Nearby.{neighbour_numbers}
 use Rattle.interval_facts.specs.Ranges.{RangeValue, IntRange, BoolRange, PairRange, LiesIn}
 use Rattle.interval_facts.specs.Solutions.{Devices, In, ValueMap, ValueMaps, bind, near_among, around, FitsOn, local_map, where_is, LeafIs, Solves, SolveAll}
 use Rattle.interval_facts.specs.Claims.{MapLiesIn}
@@ -69,7 +69,7 @@ module _ (N : Network) where
   to_target : (d a c : ℕ) → builtin_value op.Rise M d (ValueLocal (IntValue a) ∷ ValueLocal (IntValue a) ∷ ValueLocal (IntValue c) ∷ []) ≡ Some (ValueLocal (IntValue a))
   to_target d a c = let e : min a (a + c) ≡ a = omega arith in rw e refl
 
-  module _ (D : Devices) (V : ValueMaps) (f : ℕ → LocalValue) (x p : ℕ) (t s : Term) (r : RangeValue) (tt' : type_of t ≡ TypeLocal IntType) (ts : type_of s ≡ TypeLocal IntType) (some : 1 ≤ least_integer r)
+  module _ (D : Devices) (V : ValueMaps) (f : ℕ → LocalValue) (x p : ℕ) (t s : Term) (r : RangeValue) (tt' : term_type t ≡ TypeLocal IntType) (ts : term_type s ≡ TypeLocal IntType) (some : 1 ≤ least_integer r)
       (lies : (G : ValueMap) → Solves N (suc p + size t + 1) s D (in_body x f V) G → MapLiesIn D r G) where
     W : ValueMaps
     W = in_body x f V
@@ -87,7 +87,7 @@ module _ (N : Network) where
                 let a = integer_of (around N D d) (T d) (subst (λ y. FitsOver M (around N D d) y (T d)) tt' (fits_of N t (suc p) D (in_body x f V) T all.0 d i)) in
                 let b = integer_of (around N D d) (ValueLocal (f d)) (fits d i) in
                 let c = integer_of (around N D d) (S d) (subst (λ y. FitsOver M (around N D d) y (S d)) ts (fits_of N s (suc p + size t + 1) D (in_body x f V) S all.1.1.0 d i)) in
-                let own : X d ≡ ValueLocal (IntValue b.number) = all.1.0.1 d i ∙ ap (restricted d (near_numbers (near_among N D d))) (self_bound x d f V) ∙ b.is in
+                let own : X d ≡ ValueLocal (IntValue b.number) = all.1.0.1 d i ∙ ap (restricted d (neighbour_numbers (near_among N D d))) (self_bound x d f V) ∙ b.is in
                 let low = some_number r c.number some (subst (LiesIn r) c.is (lies S all.1.1.0 d i)) in
                 let ai = a.is in let ci = c.is in let bi = b.is in
                 let value : builtin_value op.Rise M d (ValueLocal (IntValue a.number) ∷ ValueLocal (IntValue b.number) ∷ ValueLocal (IntValue c.number) ∷ []) ≡ Some (ValueLocal (f d)) =
@@ -108,7 +108,7 @@ module _ (N : Network) where
         fits = subst (λ y. FitsOn N D y (local_map f)) tt' (fits_of N t (suc p) D (in_body x f V) (local_map f) h.0)
 
         own : (d : ℕ) → In D d → LeafIs N D (Variable x) (in_body x f V) d (ValueLocal (f d))
-        own d i = sym (ap (restricted d (near_numbers (near_among N D d))) (self_bound x d f V))
+        own d i = sym (ap (restricted d (neighbour_numbers (near_among N D d))) (self_bound x d f V))
 
         value : (d : ℕ) → In D d → builtin_value op.Rise M d (ValueLocal (f d) ∷ ValueLocal (f d) ∷ h.1.0 d ∷ []) ≡ Some (ValueLocal (f d))
         value d i =

@@ -3,7 +3,7 @@ use Rattle.std.specs.Prelude.{ℕ, suc, ◌≡◌, ◌↔◌, ◌≤◌, ◌+◌
 use Rattle.fc_values.specs.declared.builtins.Builtin.TheVariants as op
 use Rattle.fc_values.specs.Types.{IntType, TypeLocal}
 use Rattle.fc_values.specs.Values.{LocalValue}
-use Rattle.fc_nodes.specs.Terms.{Variable, Term, Plain, Apply, NoMore, More, type_of, size}
+use Rattle.fc_nodes.specs.Terms.{Variable, Term, Plain, Apply, NoMore, More, term_type, size}
 use Rattle.fc_nodes.specs.Typing.{Scope, HasType}
 use Rattle.topology.specs.Networks.{Network, IsNetwork}
 use Rattle.interval_facts.specs.Ranges.{RangeValue, full, Bounds, term_range}
@@ -30,7 +30,7 @@ in_body x f V = bind x (local_map f) V
 -- and s has a solution.
 abbrev pub SolvesWithoutRise : Type 0
 SolvesWithoutRise = (N : Network) (D : Devices) (V : ValueMaps) (f : ℕ → LocalValue) (x p : ℕ) (t s : Term)
-    (r : RangeValue) → type_of t ≡ TypeLocal IntType → type_of s ≡ TypeLocal IntType → 1 ≤ least_integer r
+    (r : RangeValue) → term_type t ≡ TypeLocal IntType → term_type s ≡ TypeLocal IntType → 1 ≤ least_integer r
     → ((G : ValueMap) → Solves N (suc p + size t + 1) s D (in_body x f V) G → MapLiesIn D r G)
     → Solves N p (rising_body x t s) D (in_body x f V) (local_map f)
     ↔ (Solves N (suc p) t D (in_body x f V) (local_map f)

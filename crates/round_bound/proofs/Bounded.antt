@@ -8,10 +8,10 @@ use Rattle.fc_values.specs.declared.types.InputTy.TheVariants as input
 use Rattle.fc_values.specs.Types.{LocalType, IntType, BoolType, PairType, ValueType, Declarations, Input}
 use Rattle.fc_values.specs.Values.{IntValue, BoolValue, PairValue}
 use Rattle.fc_values.specs.BuiltinTypes.{inner}
-use Rattle.fc_nodes.specs.Terms.{Leaf, Literal, Variable, Sense, Uid, NbrLink, Term, Terms, Plain, Apply, Nbr, Evolve, If, Let, NoMore, More, size, type_of}
+use Rattle.fc_nodes.specs.Terms.{Leaf, Literal, Variable, Sense, Uid, NbrLink, Term, Terms, Plain, Apply, Nbr, Evolve, If, Let, NoMore, More, size, term_type}
 use Rattle.fc_nodes.specs.Typing.{Scope, HasType, HaveTypes, LeafHasType, evolving_type}
 use Rattle.fc_nodes.specs.Program.{Program, IsProgram, IsLawful, InputsAreLawful, InputIsLawful, unfolding_of}
-use Rattle.interval_facts.specs.Ranges.{RangeValue, IntRange, BoolRange, PairRange, full, hull, least_range, greatest_range, least_hood, greatest_hood, both_ends, difference, first_range, second_range, of_one, of_two, of_three, sum_cut, product_cut, builtin_range, Bounds, bound_at, input_range, sense_range, leaf_range, term_range, term_ranges, node_ranges, all_node_ranges, ranges_of, range_of}
+use Rattle.interval_facts.specs.Ranges.{RangeValue, IntRange, BoolRange, PairRange, full, hull, least_range, greatest_range, least_hood, greatest_hood, both_ends, difference, first_range, second_range, range_of_one, range_of_two, range_of_three, sum_cut, product_cut, builtin_range, Bounds, binding_range, input_range, sense_range, leaf_range, term_range, term_ranges, node_ranges, all_node_ranges, ranges_of, range_of}
 
 abbrev pub EndsAtMost : ℕ → RangeValue → Type 0
 EndsAtMost m (IntRange a b) = (a ≤ m) × (b ≤ m)
@@ -102,18 +102,18 @@ module _ (m : ℕ) where
   second_few other BoolRange o f = o
   second_few other (PairRange r s) o f = f.1
 
-  one_few : (h : RangeValue → RangeValue) → ((r : RangeValue) → EndsAtMost m r → EndsAtMost m (h r)) → (other : RangeValue) (rs : List RangeValue) → EndsAtMost m other → AllEndAtMost m rs → EndsAtMost m (of_one h other rs)
+  one_few : (h : RangeValue → RangeValue) → ((r : RangeValue) → EndsAtMost m r → EndsAtMost m (h r)) → (other : RangeValue) (rs : List RangeValue) → EndsAtMost m other → AllEndAtMost m rs → EndsAtMost m (range_of_one h other rs)
   one_few h k other [] o f = o
   one_few h k other (r ∷ []) o f = k r f.0
   one_few h k other (r ∷ s ∷ rs) o f = o
 
-  two_few : (h : RangeValue → RangeValue → RangeValue) → ((r s : RangeValue) → EndsAtMost m r → EndsAtMost m s → EndsAtMost m (h r s)) → (other : RangeValue) (rs : List RangeValue) → EndsAtMost m other → AllEndAtMost m rs → EndsAtMost m (of_two h other rs)
+  two_few : (h : RangeValue → RangeValue → RangeValue) → ((r s : RangeValue) → EndsAtMost m r → EndsAtMost m s → EndsAtMost m (h r s)) → (other : RangeValue) (rs : List RangeValue) → EndsAtMost m other → AllEndAtMost m rs → EndsAtMost m (range_of_two h other rs)
   two_few h k other [] o f = o
   two_few h k other (r ∷ []) o f = o
   two_few h k other (r ∷ s ∷ []) o f = k r s f.0 f.1.0
   two_few h k other (r ∷ s ∷ u ∷ rs) o f = o
 
-  three_few : (h : RangeValue → RangeValue → RangeValue → RangeValue) → ((r s u : RangeValue) → EndsAtMost m r → EndsAtMost m s → EndsAtMost m u → EndsAtMost m (h r s u)) → (other : RangeValue) (rs : List RangeValue) → EndsAtMost m other → AllEndAtMost m rs → EndsAtMost m (of_three h other rs)
+  three_few : (h : RangeValue → RangeValue → RangeValue → RangeValue) → ((r s u : RangeValue) → EndsAtMost m r → EndsAtMost m s → EndsAtMost m u → EndsAtMost m (h r s u)) → (other : RangeValue) (rs : List RangeValue) → EndsAtMost m other → AllEndAtMost m rs → EndsAtMost m (range_of_three h other rs)
   three_few h k other [] o f = o
   three_few h k other (r ∷ []) o f = o
   three_few h k other (r ∷ s ∷ []) o f = o
@@ -152,11 +152,11 @@ module _ (m : ℕ) where
   builtin_few other op.AnyHood rs o f = tt
   builtin_few other op.AllHood rs o f = tt
 
-  bound_few : (other : RangeValue) (n : ℕ) (bs : Bounds) → EndsAtMost m other → BoundsFew m bs → EndsAtMost m (bound_at other n bs)
+  bound_few : (other : RangeValue) (n : ℕ) (bs : Bounds) → EndsAtMost m other → BoundsFew m bs → EndsAtMost m (binding_range other n bs)
   bound_few other n [] o f = o
   bound_few other n (b ∷ bs) o f = by_test (nat_eq b.0 n) (bound_few other n bs o f.1)
     where
-      by_test : (c : Bool) → EndsAtMost m (bound_at other n bs) → EndsAtMost m (if c then b.1 else bound_at other n bs)
+      by_test : (c : Bool) → EndsAtMost m (binding_range other n bs) → EndsAtMost m (if c then b.1 else binding_range other n bs)
       by_test true k = f.0
       by_test false k = k
 
@@ -187,7 +187,7 @@ module _ (D : Declarations) (lawful : IsLawful D) where
     term_few scope bs p (Evolve t e a u) h b = term_few ((p, evolving_type e h.0) ∷ scope) ((p, full D.ceiling (inner t)) ∷ bs) (suc p + size a) u h.5 (full_few D.ceiling (inner t), b)
     term_few scope bs p (If t c u v) h b =
         hull_few D.ceiling (term_range D bs (suc p + size c) u) (term_range D bs (suc p + size c + size u) v) (term_few scope bs (suc p + size c) u h.6 b) (term_few scope bs (suc p + size c + size u) v h.7 b)
-    term_few scope bs p (Let t a u) h b = term_few ((p, type_of a) ∷ scope) ((p, term_range D bs (suc p) a) ∷ bs) (suc p + size a) u h.2 (term_few scope bs (suc p) a h.1 b, b)
+    term_few scope bs p (Let t a u) h b = term_few ((p, term_type a) ∷ scope) ((p, term_range D bs (suc p) a) ∷ bs) (suc p + size a) u h.2 (term_few scope bs (suc p) a h.1 b, b)
 
     terms_few : (scope : Scope) (bs : Bounds) (p : ℕ) (xs : Terms) → HaveTypes D scope p xs → BoundsFew D.ceiling bs → AllEndAtMost D.ceiling (term_ranges D bs p xs)
     terms_few scope bs p NoMore h b = tt
@@ -215,7 +215,7 @@ module _ (D : Declarations) (lawful : IsLawful D) where
     nodes_few scope bs p (Let t a u) h b = (
       term_few scope bs p (Let t a u) h b,
       both_few (node_ranges D bs (suc p) a) _ (nodes_few scope bs (suc p) a h.1 b)
-          (nodes_few ((p, type_of a) ∷ scope) ((p, term_range D bs (suc p) a) ∷ bs) (suc p + size a) u h.2 (term_few scope bs (suc p) a h.1 b, b)),
+          (nodes_few ((p, term_type a) ∷ scope) ((p, term_range D bs (suc p) a) ∷ bs) (suc p + size a) u h.2 (term_few scope bs (suc p) a h.1 b, b)),
     )
 
     all_few : (scope : Scope) (bs : Bounds) (p : ℕ) (xs : Terms) → HaveTypes D scope p xs → BoundsFew D.ceiling bs → AllEndAtMost D.ceiling (all_node_ranges D bs p xs)

@@ -10,7 +10,7 @@ use Rattle.fc_values.specs.declared.builtins.Builtin.TheVariants as op
 use Rattle.fc_values.specs.BuiltinTypes.{inner}
 use Rattle.fc_nodes.specs.declared.verdicts.Reason.{Reason}
 use Rattle.fc_nodes.specs.declared.verdicts.Reason.TheVariants as reason
-use Rattle.fc_nodes.specs.Terms.{Evolution, ByRep, ByShare, Term, Terms, Plain, Apply, Nbr, Evolve, If, Let, NoMore, More, size, type_of, term_at}
+use Rattle.fc_nodes.specs.Terms.{Evolution, ByRep, ByShare, Term, Terms, Plain, Apply, Nbr, Evolve, If, Let, NoMore, More, size, term_type, term_at}
 use Rattle.fc_nodes.specs.Subterms.{subterm_at}
 use Rattle.fc_nodes.specs.Program.{Program, IsProgram, unfolding_of}
 use Rattle.interval_facts.specs.Ranges.{RangeValue, IntRange, BoolRange, PairRange, range_of}
@@ -22,7 +22,7 @@ use Rattle.fragment_check.specs.declared.kinds.Pattern.{Pattern}
 use Rattle.fragment_check.specs.declared.kinds.Pattern.TheVariants as pattern
 use Rattle.fragment_check.specs.declared.facts.Guarding.{Guarding}
 use Rattle.fragment_check.specs.declared.facts.Guarding.TheVariants as guarding
-use Rattle.fragment_check.specs.Patterns.{is_nested, is_unguarded, guarding_of, form_of, Form, IsHood, IsRise, IsOther, is_pair, raising, minimising_by, rising_by, by_form, by_guarding, body_pattern, pattern_of}
+use Rattle.fragment_check.specs.Patterns.{is_nested, is_unguarded, guarding_of, evolution_form, Form, IsHood, IsRise, IsOther, is_pair_range, raising, minimising_by, rising_by, by_form, by_guarding, body_pattern, pattern_of}
 use Rattle.fragment_check.specs.Verdicts.{ranks, added_levels, added_by, added_at, bound_range, variable_range, stages_of, pattern_at}
 use Rattle.round_bound.specs.Walks.{most_added, PatternFew}
 use Rattle.round_bound.proofs.Bounded.{EndsAtMost, full_few, range_few}
@@ -107,8 +107,8 @@ module _ (m p : ℕ) where
 
   node_few : (rs : ℕ → RangeValue) (e : Evolution) (x : ℕ) (t : Term) (other : GrowthValue) → GrowthFew m other → GrowthFew m (node_growth m rs e x p t other)
   node_few rs e x t other k =
-      by_few (occurs x t) (is_heard e x t) (growth_apart m p (least_integer (rs p))) (growth_heard p (leads (inner (type_of t)))) other
-      (only_few (nat_eq (least_integer (rs p)) m) (Grows m) (omega arith)) (only_few (leads (inner (type_of t))) (Grows 0) (omega arith)) k
+      by_few (occurs x t) (is_heard e x t) (growth_apart m p (least_integer (rs p))) (growth_heard p (leads (inner (term_type t)))) other
+      (only_few (nat_eq (least_integer (rs p)) m) (Grows m) (omega arith)) (only_few (leads (inner (term_type t))) (Grows 0) (omega arith)) k
 
 mutual
   growth_few : (m : ℕ) (rs : ℕ → RangeValue) (e : Evolution) (x p : ℕ) (t : Term) → GrowthFew m (growth_of m rs e x p t)
@@ -165,7 +165,7 @@ module _ (m : ℕ) where
 
   minimising_few : (l : RangeValue) (r : Result ℕ Reason) → EndsAtMost m l → RaisedFew m r → ResultFew m (minimising_by m l r)
   minimising_few l (Err r) f g = tt
-  minimising_few l (Ok c) f g = if_few (is_pair l && nat_eq (greatest_integer l) m) _ (Ok (pattern.Minimising (greatest_integer l) c)) tt (greatest_few m l f, g.0, g.1)
+  minimising_few l (Ok c) f g = if_few (is_pair_range l && nat_eq (greatest_integer l) m) _ (Ok (pattern.Minimising (greatest_integer l) c)) tt (greatest_few m l f, g.0, g.1)
 
   rising_few : (l s : RangeValue) (r : Result ℕ Reason) → EndsAtMost m l → EndsAtMost m s → RaisedFew m r → ResultFew m (rising_by l s r)
   rising_few l s (Err r) f k g = tt
@@ -194,7 +194,7 @@ module _ (m : ℕ) where
         if_few (not (occurs x u)) (Ok pattern.Constant) _ tt
         (if_few (is_nested e x u) _ _ tt
         (if_few (is_unguarded e x u) _ _ tt
-        (guarding_few (guarding_of e x u) _ (form_few (guarding_of e x u) (form_of e x u)))))
+        (guarding_few (guarding_of e x u) _ (form_few (guarding_of e x u) (evolution_form e x u)))))
 
   pub pattern_few : (R : ℕ → RangeValue) → ((q : ℕ) → EndsAtMost m (R q)) → (p : ℕ) (t : Term) → ResultFew m (pattern_of m R p t)
   pattern_few R few p (Plain t l) = tt

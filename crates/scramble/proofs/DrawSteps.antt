@@ -12,21 +12,21 @@ use Rattle.fc_nodes.proofs.Places.{AllAbove}
 use Rattle.fc_nodes.proofs.Kids.{kids_of, KidsAre, kids_are, own_type, branches, own_is, branches_is, three}
 use Rattle.std.specs.Prelude.{if◌then◌else◌}
 use Rattle.scramble.specs.Words.{Words}
-use Rattle.scramble.specs.Draws.{Drawn, only, and_then, after_truth, draw_truth, draw_value, draw_kept, draw_all_kept}
+use Rattle.scramble.specs.Draws.{Drawn, only, drawn_then, after_truth, draw_truth, draw_value, draw_kept, draw_all_kept}
 use Rattle.scramble.specs.Drawing.{Draws, draw_own}
 
 -- ---- one after another
 
-pub and_nothing : (d : Drawn) → and_then d (λ w. ([], w)) ≡ d
+pub and_nothing : (d : Drawn) → drawn_then d (λ w. ([], w)) ≡ d
 and_nothing d = ap (λ (vs : List LocalValue). (vs, d.1)) (append-nil d.0)
 
-pub and_same : (d : Drawn) (f g : Words → Drawn) → ((w : Words) → f w ≡ g w) → and_then d f ≡ and_then d g
+pub and_same : (d : Drawn) (f g : Words → Drawn) → ((w : Words) → f w ≡ g w) → drawn_then d f ≡ drawn_then d g
 and_same d f g h = ap (λ (e : Drawn). (d.0 ++ e.0, e.1)) (h d.1)
 
-pub and_assoc : (d : Drawn) (f g : Words → Drawn) → and_then (and_then d f) g ≡ and_then d (λ w. and_then (f w) g)
+pub and_assoc : (d : Drawn) (f g : Words → Drawn) → drawn_then (drawn_then d f) g ≡ drawn_then d (λ w. drawn_then (f w) g)
 and_assoc d f g = ap (λ (vs : List LocalValue). (vs, (g (f d.1).1).1)) (append_assoc d.0 (f d.1).0 (g (f d.1).1).0)
 
-pub draws_both : (d : Drawn) (f : Words → Drawn) (old middle new : List Local) (w v : Words) → Draws d old middle w → Draws (f w) middle new v → Draws (and_then d f) old new v
+pub draws_both : (d : Drawn) (f : Words → Drawn) (old middle new : List Local) (w v : Words) → Draws d old middle w → Draws (f w) middle new v → Draws (drawn_then d f) old new v
 draws_both d f old middle new w v h h' =
     let e = h.left in
     let both : map local_of new ≡ (map local_of old ++ d.0) ++ (f w).0 = h'.values ∙ ap (λ (vs : List LocalValue). vs ++ (f w).0) h.values in
@@ -40,12 +40,12 @@ draws_as d e old new w p h = subst (λ (x : Drawn). Draws x old new w) p h
 
 -- ---- a node that is no `if`
 
-whole : (c : ℕ) (u : Term) (w : Words) → branches u ≡ false → draw_kept c u w ≡ and_then (draw_own c (own_type u) w) (draw_all_kept c (kids_of u))
+whole : (c : ℕ) (u : Term) (w : Words) → branches u ≡ false → draw_kept c u w ≡ drawn_then (draw_own c (own_type u) w) (draw_all_kept c (kids_of u))
 whole c (Plain t l) w e = refl
 whole c (Apply t o xs) w e = refl
 whole c (Nbr t a) w e = and_same (only (draw_value c (inner t) w)) (draw_kept c a) (draw_all_kept c (More a NoMore)) (λ v. sym (and_nothing (draw_kept c a v)))
 whole c (Evolve t o a b) w e =
-    and_same (only (draw_value c (inner t) w)) (λ v. and_then (draw_kept c a v) (draw_kept c b)) (draw_all_kept c (More a (More b NoMore)))
+    and_same (only (draw_value c (inner t) w)) (λ v. drawn_then (draw_kept c a v) (draw_kept c b)) (draw_all_kept c (More a (More b NoMore)))
     (λ v. and_same (draw_kept c a v) (draw_kept c b) (draw_all_kept c (More b NoMore)) (λ u. sym (and_nothing (draw_kept c b u))))
 whole c (If t x a b) w e = absurd cc
 whole c (Let t a b) w e = and_same (draw_kept c a w) (draw_kept c b) (draw_all_kept c (More b NoMore)) (λ u. sym (and_nothing (draw_kept c b u)))
@@ -54,13 +54,13 @@ module _ (ns : List Node) (ab : AllAbove ns) (p : ℕ) (st : StandsAt ns p) (s :
   kids : KidsAre ns p (term_at ns p) ks
   kids = kids_are ns ab p s t ks h st.laid
 
-  node_is : (w : Words) → is_branching s ≡ false → and_then (draw_own c (kept_type s t) w) (draw_all_kept c (terms_by (term_at ns) ks)) ≡ draw_kept c (term_at ns p) w
+  node_is : (w : Words) → is_branching s ≡ false → drawn_then (draw_own c (kept_type s t) w) (draw_all_kept c (terms_by (term_at ns) ks)) ≡ draw_kept c (term_at ns p) w
   node_is w b =
       let i = kids in
       let plain : branches (term_at ns p) ≡ false = sym (branches_is ns s t ks (term_at ns p) p h st.laid) ∙ b in
       sym (whole c (term_at ns p) w plain
-      ∙ ap (λ (o : Option LocalType). and_then (draw_own c o w) (draw_all_kept c (kids_of (term_at ns p)))) (sym (own_is ns s t ks (term_at ns p) p h st.laid))
-      ∙ ap (λ (xs : Terms). and_then (draw_own c (kept_type s t) w) (draw_all_kept c xs)) i.kids)
+      ∙ ap (λ (o : Option LocalType). drawn_then (draw_own c o w) (draw_all_kept c (kids_of (term_at ns p)))) (sym (own_is ns s t ks (term_at ns p) p h st.laid))
+      ∙ ap (λ (xs : Terms). drawn_then (draw_own c (kept_type s t) w) (draw_all_kept c xs)) i.kids)
 
   -- what it keeps itself, and then its kids
   pub node_drawn : is_branching s ≡ false → (old middle new : List Local) (w v u : Words) → Draws (draw_own c (kept_type s t) w) old middle v
@@ -87,10 +87,10 @@ module _ (ns : List Node) (ab : AllAbove ns) (p : ℕ) (st : StandsAt ns p) (s :
   abbrev pub branch : Bool → Words → Drawn
   branch b u = if b then go (kid 1) u else go (kid 2) u
 
-  if_is : and_then (BoolValue truth ∷ [], v) (λ ws. and_then (go (kid 0) ws) (branch truth)) ≡ draw_kept c (term_at ns p) w
+  if_is : drawn_then (BoolValue truth ∷ [], v) (λ ws. drawn_then (go (kid 0) ws) (branch truth)) ≡ draw_kept c (term_at ns p) w
   if_is =
       let th = three ns ab p st s t ks h branching in
-      ap (λ (d : Bool × Words). after_truth d (λ b ws. and_then (go (kid 0) ws) (branch b))) drawn
+      ap (λ (d : Bool × Words). after_truth d (λ b ws. drawn_then (go (kid 0) ws) (branch b))) drawn
       ∙ sym (ap (λ (u : Term). draw_kept c u w) th.term)
 
   module _ (old : List Local) (x : Local) (middle : List Local) (push : middle ≡ old ++ x ∷ []) (own : local_of x ≡ BoolValue truth) (q0 : ℕ) (f0 : q0 ≡ kid 0) (later : List Local) (u : Words) (first : Draws (go q0 v) middle later u) where
@@ -100,7 +100,7 @@ module _ (ns : List Node) (ab : AllAbove ns) (p : ℕ) (st : StandsAt ns p) (s :
     both_drawn : (q : ℕ) (new : List Local) (z : Words) → branch truth u ≡ go q u → Draws (go q u) later new z → Draws (draw_kept c (term_at ns p) w) old new z
     both_drawn q new z e third =
         draws_as _ _ old new z if_is
-        (draws_both (BoolValue truth ∷ [], v) (λ ws. and_then (go (kid 0) ws) (branch truth)) old middle new v z truth_drawn
+        (draws_both (BoolValue truth ∷ [], v) (λ ws. drawn_then (go (kid 0) ws) (branch truth)) old middle new v z truth_drawn
         (draws_both (go (kid 0) v) (branch truth) middle later new u z (subst (λ (i : ℕ). Draws (go i v) middle later u) f0 first)
         (draws_as _ _ later new z (sym e) third)))
 
@@ -119,7 +119,7 @@ pub record KidsDrawn (ns : List Node) (p c : ℕ) (all ks : List ℕ) (w v : Wor
   pub stand : StandAfter ns p ks
   pub values : List LocalValue
   pub behind : map local_of now ≡ map local_of old ++ values
-  pub same : and_then (values, v) (draw_all_kept c (terms_by (term_at ns) ks)) ≡ draw_all_kept c (terms_by (term_at ns) all) w
+  pub same : drawn_then (values, v) (draw_all_kept c (terms_by (term_at ns) ks)) ≡ draw_all_kept c (terms_by (term_at ns) all) w
 
 module _ (ns : List Node) (p c : ℕ) where
   abbrev pub go_all : List ℕ → Words → Drawn
@@ -138,7 +138,7 @@ module _ (ns : List Node) (p c : ℕ) where
         stand = s.2;
         values = h.values ++ mine;
         behind = d.values ∙ ap (λ (vs : List LocalValue). vs ++ mine) h.behind ∙ append_assoc (map local_of old) h.values mine;
-        same = ap (λ (z : Words). and_then (h.values ++ mine, z) (go_all ks)) e
+        same = ap (λ (z : Words). drawn_then (h.values ++ mine, z) (go_all ks)) e
             ∙ and_assoc (h.values, v) (draw_kept c (term_at ns k)) (go_all ks) ∙ h.same;
       }
 

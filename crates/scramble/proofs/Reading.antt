@@ -6,7 +6,7 @@ use Rattle.fc_values.specs.Exports.{FlatExport, export_of}
 use Rattle.fc_values.specs.Types.{LocalType, IntType, BoolType, PairType, ValueType}
 use Rattle.fc_values.specs.Values.{LocalValue, Fits, local_of}
 use Rattle.fc_values.specs.BuiltinTypes.{inner}
-use Rattle.fc_nodes.specs.Terms.{Term, Terms, Plain, Apply, Nbr, Evolve, If, Let, NoMore, More, size, Sort, type_of, term_at, HasNode}
+use Rattle.fc_nodes.specs.Terms.{Term, Terms, Plain, Apply, Nbr, Evolve, If, Let, NoMore, More, size, Sort, term_type, term_at, HasNode}
 use Rattle.fc_nodes.specs.Program.{Program, Unfolding, unfolding_of, IsProgram}
 use Rattle.value_trees.specs.KeptExports.{ListsHaveExports}
 use Rattle.value_trees.specs.KeptReads.{Rest, left_by, left_by_all, misfit_of}
@@ -19,7 +19,7 @@ use Rattle.value_trees.proofs.WalkSteps.{type_is}
 use Rattle.scramble.specs.Words.{Words, next}
 use Rattle.std.specs.Prelude.{if◌then◌else◌}
 use Rattle.scramble.specs.Drawing.{Draws}
-use Rattle.scramble.specs.Draws.{Drawn, after_truth, and_then, draw_truth, draw_value, draw_kept, draw_all_kept}
+use Rattle.scramble.specs.Draws.{Drawn, after_truth, drawn_then, draw_truth, draw_value, draw_kept, draw_all_kept}
 use Rattle.scramble.specs.Rubbish.{value_from, kept_from, after_export, IsDrawn, SomeRubbish}
 
 pub value_fits : (c : ℕ) (s : LocalType) (w : Words) → Fits c s (draw_value c s w).0
@@ -55,7 +55,7 @@ module _ (c : ℕ) where
         branch : (truth : Bool) (w1 : Words) → ((us : List LocalValue) → left_by c (suc p) x ((draw_kept c x w1).0 ++ us) ≡ Rest us)
             → left_by c (suc p + size x) a ((draw_kept c a (draw_kept c x w1).1).0 ++ rest) ≡ Rest rest
             → left_by c (suc p + size x + size a) b ((draw_kept c b (draw_kept c x w1).1).0 ++ rest) ≡ Rest rest
-            → left_by c p (If t x a b) ((after_truth (truth, w1) (λ h ws. and_then (draw_kept c x ws) (λ vs. if h then draw_kept c a vs else draw_kept c b vs))).0 ++ rest) ≡ Rest rest
+            → left_by c p (If t x a b) ((after_truth (truth, w1) (λ h ws. drawn_then (draw_kept c x ws) (λ vs. if h then draw_kept c a vs else draw_kept c b vs))).0 ++ rest) ≡ Rest rest
         branch true w1 f g h =
             let s = append_assoc (draw_kept c x w1).0 (draw_kept c a (draw_kept c x w1).1).0 rest in
             let ih = f ((draw_kept c a (draw_kept c x w1).1).0 ++ rest) in
@@ -110,7 +110,7 @@ some_rubbish lists U w (d ∷ ds) =
 module _ (P : Program) (p : IsProgram P) (s : Sort) (t : ValueType) (ks : List ℕ) (h : HasNode P.nodes 0 s t ks) (c : ℕ) (e : c ≡ P.declared.ceiling) (u : LocalType) (f : u ≡ inner t) (w v : Words) (x : LocalValue) (drawn : (x, v) ≡ draw_value c u w) where
   value_is : (x, v) ≡ value_from (unfolding_of P) w
   value_is =
-      let same : u ≡ inner (type_of (term_at P.nodes 0)) = f ∙ ap inner (sym (type_is P.nodes s t ks (term_at P.nodes 0) 0 h p.formed.laid)) in
+      let same : u ≡ inner (term_type (term_at P.nodes 0)) = f ∙ ap inner (sym (type_is P.nodes s t ks (term_at P.nodes 0) 0 h p.formed.laid)) in
       drawn ∙ ap (λ (k : ℕ). draw_value k u w) e ∙ ap (λ (r : LocalType). draw_value P.declared.ceiling r w) same
 
   pub value_of_main : FitsMain (unfolding_of P) x

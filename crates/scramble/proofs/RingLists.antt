@@ -4,7 +4,7 @@ use Rattle.std.specs.Prelude.{nat_eq}
 use Rattle.fc_values.specs.Values.{BoolValue}
 use Rattle.topology.specs.declared.types.Device.{Device}
 use Rattle.topology.specs.declared.types.Link.{Link}
-use Rattle.topology.specs.Networks.{NetDevice, Edge, device_of, edge_of}
+use Rattle.topology.specs.Networks.{NetDevice, Edge, net_device_of, edge_of}
 use Rattle.scramble.specs.Rings.{ring_devices, ring_links, edge_between, chain}
 
 abbrev one_device : ℕ → ℕ → NetDevice
@@ -12,24 +12,24 @@ one_device s i = record { id = i; inputs = BoolValue (nat_eq i s) ∷ [] }
 
 -- the devices so far, and those that are left
 pub record DevicesSoFar (s count i : ℕ) (ds : List Device) : Type 0 where
-  pub same : map device_of ds ++ ring_devices s i (count - i) ≡ ring_devices s 0 count
+  pub same : map net_device_of ds ++ ring_devices s i (count - i) ≡ ring_devices s 0 count
 
 devices_next : (s i n : ℕ) (m : ℕ) → n ≡ suc m → ring_devices s i n ≡ one_device s i ∷ ring_devices s (i + 1) m
 devices_next s i n m e = let f : i + 1 ≡ suc i = omega arith in ap (ring_devices s i) e ∙ ap (λ (j : ℕ). one_device s i ∷ ring_devices s j m) (sym f)
 
-pushed_device : (ds : List Device) (d : Device) → map device_of (ds ++ d ∷ []) ≡ map device_of ds ++ device_of d ∷ []
+pushed_device : (ds : List Device) (d : Device) → map net_device_of (ds ++ d ∷ []) ≡ map net_device_of ds ++ net_device_of d ∷ []
 pushed_device [] d = refl
-pushed_device (x ∷ xs) d = ap (λ (ys : List NetDevice). device_of x ∷ ys) (pushed_device xs d)
+pushed_device (x ∷ xs) d = ap (λ (ys : List NetDevice). net_device_of x ∷ ys) (pushed_device xs d)
 
-pub device_next : (s count i : ℕ) (ds es : List Device) (d : Device) → i < count → DevicesSoFar s count i ds → device_of d ≡ one_device s i → es ≡ ds ++ d ∷ [] → DevicesSoFar s count (i + 1) es
+pub device_next : (s count i : ℕ) (ds es : List Device) (d : Device) → i < count → DevicesSoFar s count i ds → net_device_of d ≡ one_device s i → es ≡ ds ++ d ∷ [] → DevicesSoFar s count (i + 1) es
 device_next s count i ds es d b h e f =
     let rest = ring_devices s (i + 1) (count - (i + 1)) in
     record {
       same =
-          ap (λ (ys : List NetDevice). ys ++ rest) (ap (map device_of) f ∙ pushed_device ds d)
-          ∙ append_assoc (map device_of ds) (device_of d ∷ []) rest
-          ∙ ap (λ (x : NetDevice). map device_of ds ++ x ∷ rest) e
-          ∙ ap (λ (ys : List NetDevice). map device_of ds ++ ys) (sym (devices_next s i (count - i) (count - (i + 1)) (omega arith)))
+          ap (λ (ys : List NetDevice). ys ++ rest) (ap (map net_device_of) f ∙ pushed_device ds d)
+          ∙ append_assoc (map net_device_of ds) (net_device_of d ∷ []) rest
+          ∙ ap (λ (x : NetDevice). map net_device_of ds ++ x ∷ rest) e
+          ∙ ap (λ (ys : List NetDevice). map net_device_of ds ++ ys) (sym (devices_next s i (count - i) (count - (i + 1)) (omega arith)))
           ∙ h.same;
     }
 

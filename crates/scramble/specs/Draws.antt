@@ -31,11 +31,11 @@ abbrev pub only : LocalValue × Words → Drawn
 only v = (v.0 ∷ [], v.1)
 
 -- values, and behind them others that are drawn from the words after them
-abbrev pub and_then : Drawn → (Words → Drawn) → Drawn
-and_then d draw = (d.0 ++ (draw d.1).0, (draw d.1).1)
+abbrev pub drawn_then : Drawn → (Words → Drawn) → Drawn
+drawn_then d draw = (d.0 ++ (draw d.1).0, (draw d.1).1)
 
 abbrev pub after_truth : Bool × Words → (Bool → Words → Drawn) → Drawn
-after_truth b draw = and_then (BoolValue b.0 ∷ [], b.1) (draw b.0)
+after_truth b draw = drawn_then (BoolValue b.0 ∷ [], b.1) (draw b.0)
 
 -- what the nodes of a term keep, in preorder: the value of each `nbr`, `rep` and `share`, and the truth of each `if`.
 -- Beneath an `if` its condition is drawn, and the branch that its truth names, and no other
@@ -43,14 +43,14 @@ abbrev mutual
   pub draw_kept : ℕ → Term → Words → Drawn
   draw_kept c (Plain t l) words = ([], words)
   draw_kept c (Apply t o xs) words = draw_all_kept c xs words
-  draw_kept c (Nbr t a) words = and_then (only (draw_value c (inner t) words)) (draw_kept c a)
+  draw_kept c (Nbr t a) words = drawn_then (only (draw_value c (inner t) words)) (draw_kept c a)
   draw_kept c (Evolve t e a b) words =
-      and_then (only (draw_value c (inner t) words)) (λ ws. and_then (draw_kept c a ws) (draw_kept c b))
+      drawn_then (only (draw_value c (inner t) words)) (λ ws. drawn_then (draw_kept c a ws) (draw_kept c b))
   draw_kept c (If t x a b) words =
       after_truth (draw_truth words) (λ truth ws.
-      and_then (draw_kept c x ws) (λ vs. if truth then draw_kept c a vs else draw_kept c b vs))
-  draw_kept c (Let t a b) words = and_then (draw_kept c a words) (draw_kept c b)
+      drawn_then (draw_kept c x ws) (λ vs. if truth then draw_kept c a vs else draw_kept c b vs))
+  draw_kept c (Let t a b) words = drawn_then (draw_kept c a words) (draw_kept c b)
 
   pub draw_all_kept : ℕ → Terms → Words → Drawn
   draw_all_kept c NoMore words = ([], words)
-  draw_all_kept c (More x xs) words = and_then (draw_kept c x words) (draw_all_kept c xs)
+  draw_all_kept c (More x xs) words = drawn_then (draw_kept c x words) (draw_all_kept c xs)

@@ -5,25 +5,25 @@ use Rattle.fc_values.specs.declared.types.InputTy.TheVariants as input
 use Rattle.fc_values.specs.Types.{Declarations}
 use Rattle.fc_values.specs.Values.{BoolValue}
 use Rattle.topology.specs.Networks.{NetDevice, Edge, Network}
-use Rattle.fc_syntax.specs.Terms.{Term, IntTerm, VarTerm, NbrLinkTerm, SenseTerm, ApplyTerm, NbrTerm, RepTerm}
+use Rattle.fc_syntax.specs.Terms.{SourceTerm, IntTerm, VarTerm, NbrLinkTerm, SenseTerm, ApplyTerm, NbrTerm, RepTerm}
 use Rattle.fc_syntax.specs.Terms.{NoTerms, MoreTerms, Declaration, CeilingIs, InputIs, MainIs}
 
 -- `nbr{d} + nbrLink`
-abbrev pub hops : Term
+abbrev pub hops : SourceTerm
 hops = ApplyTerm builtin.Add (MoreTerms (NbrTerm (VarTerm (codes "d"))) (MoreTerms NbrLinkTerm NoTerms))
 
 -- `mux(sense src, 0, D)`
-abbrev pub own_hops : ℕ → Term
+abbrev pub own_hops : ℕ → SourceTerm
 own_hops count = ApplyTerm builtin.Mux
     (MoreTerms (SenseTerm (codes "src")) (MoreTerms (IntTerm 0) (MoreTerms (IntTerm count) NoTerms)))
 
 -- `minHoodLoc(near, own)`
-abbrev pub least_of : Term → Term → Term
-least_of near own = ApplyTerm builtin.MinHoodLoc (MoreTerms near (MoreTerms own NoTerms))
+abbrev pub least_near : SourceTerm → SourceTerm → SourceTerm
+least_near near own = ApplyTerm builtin.MinHoodLoc (MoreTerms near (MoreTerms own NoTerms))
 
 -- `rep(D){(d) => minHoodLoc(nbr{d} + nbrLink, mux(sense src, 0, D))}`
-abbrev pub counting : ℕ → Term
-counting count = RepTerm (IntTerm count) (codes "d") (least_of hops (own_hops count))
+abbrev pub counting : ℕ → SourceTerm
+counting count = RepTerm (IntTerm count) (codes "d") (least_near hops (own_hops count))
 
 -- the program for so many devices: `ceiling D; input src: bool; main = ..;`
 abbrev pub ring_program : ℕ → List Declaration

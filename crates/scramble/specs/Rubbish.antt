@@ -4,7 +4,7 @@ use Rattle.fc_values.specs.declared.exports.Export.{Export}
 use Rattle.fc_values.specs.Values.{LocalValue}
 use Rattle.fc_values.specs.BuiltinTypes.{inner}
 use Rattle.fc_values.specs.Exports.{FlatExport, export_of}
-use Rattle.fc_nodes.specs.Terms.{type_of}
+use Rattle.fc_nodes.specs.Terms.{term_type}
 use Rattle.fc_nodes.specs.Program.{Unfolding}
 use Rattle.fc_nodes.specs.Flat.{IsExport, tree_export}
 use Rattle.value_trees.specs.KeptLists.{kept_values}
@@ -13,7 +13,7 @@ use Rattle.scramble.specs.Draws.{Drawn, draw_value, draw_kept}
 
 -- the value of `main` is drawn first, and then what the nodes keep
 abbrev pub value_from : Unfolding → Words → LocalValue × Words
-value_from U words = draw_value U.declared.ceiling (inner (type_of U.main)) words
+value_from U words = draw_value U.declared.ceiling (inner (term_type U.main)) words
 
 abbrev pub kept_from : Unfolding → Words → Drawn
 kept_from U words = draw_kept U.declared.ceiling U.main (value_from U words).1

@@ -10,8 +10,8 @@ Words = ChaCha
 
 -- the stream of a number, from its first word: the first four bytes of the seed are the number, least byte first, and
 -- the other 28 are 0
-unfoldable pub words_of : ℕ → Words
-words_of number = of_seed (to_le_bytes w32 number ++ repeat 28 (0 ∷ []))
+unfoldable pub stream_of : ℕ → Words
+stream_of number = of_seed (to_le_bytes w32 number ++ repeat 28 (0 ∷ []))
 
 -- the next word, and the words after it
 unfoldable pub next : Words → ℕ × Words

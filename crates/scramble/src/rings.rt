@@ -4,8 +4,8 @@ ghost use Rattle.std.specs.Prelude.{◌≡◌, ◌≤◌, ◌<◌, ◌%◌, ◌-
 ghost use Rattle.fc_values.specs.declared.limits.TheConstants.{MOST_SCENARIO_DEVICES};
 ghost use Rattle.fc_values.specs.Types.{declarations_of};
 ghost use Rattle.fc_syntax.specs.Terms.{program_of, term_of};
-ghost use Rattle.topology.specs.Networks.{device_of, edge_of};
-ghost use Rattle.scramble.specs.Rings.{counting, edge_between, hops, least_of, own_hops, ring_program};
+ghost use Rattle.topology.specs.Networks.{net_device_of, edge_of};
+ghost use Rattle.scramble.specs.Rings.{counting, edge_between, hops, least_near, own_hops, ring_program};
 ghost use Rattle.scramble.specs.Rings.{ring, ring_declared, ring_devices, ring_links, ring_over};
 
 use fc_syntax::{Decl, Expr, Program};
@@ -55,7 +55,7 @@ fn own_count(alloc: Global, devices: u32) -> Result<Expr, Memory>
 }
 
 fn least(alloc: Global, near: Expr, own: Expr) -> Result<Expr, Memory>
-    ensures { IfOk result (λ e. term_of e ≡ least_of (term_of near) (term_of own)) }
+    ensures { IfOk result (λ e. term_of e ≡ least_near (term_of near) (term_of own)) }
 {
     let mut args = Vec::new(alloc);
     args.push(near)?;
@@ -101,7 +101,7 @@ fn declared(alloc: Global, devices: u32) -> Result<Declared, Memory>
 
 // The devices of the ring.
 fn ring_of(alloc: Global, source: u32, count: u32) -> Result<Vec<Device>, Memory>
-    ensures { IfOk result (λ v. map device_of v.items ≡ ring_devices source 0 count) }
+    ensures { IfOk result (λ v. map net_device_of v.items ≡ ring_devices source 0 count) }
 {
     let mut devices = Vec::with_capacity(alloc, count as usize)?;
     for id in 0..count {

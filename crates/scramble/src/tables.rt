@@ -4,7 +4,7 @@ ghost use Rattle.std.specs.Prelude.{◌≡◌, IfOk};
 ghost use Rattle.fc_values.specs.Exports.{export_of};
 ghost use Rattle.fc_values.specs.Fields.{Rises};
 ghost use Rattle.fc_nodes.specs.Program.{unfolding_of};
-ghost use Rattle.scramble.specs.Words.{words_of};
+ghost use Rattle.scramble.specs.Words.{stream_of};
 ghost use Rattle.scramble.specs.Rubbish.{AreDrawn, IsDrawn, after_export, of_devices};
 
 use crate::draws::{draw_kept, draw_value};
@@ -24,7 +24,7 @@ pub fn rubbish(
 ) -> Result<Vec<(u32, Export)>, Memory>
     requires { Rises devices.now }
     ensures { IfOk result (λ v.
-        AreDrawn (unfolding_of program.now) (words_of number) devices.now (of_devices v.items)) }
+        AreDrawn (unfolding_of program.now) (stream_of number) devices.now (of_devices v.items)) }
 {
     let mut words = generator(number);
     let mut exports = Vec::with_capacity(alloc, devices.len())?;

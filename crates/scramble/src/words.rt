@@ -1,16 +1,16 @@
 //! The words of a number.
 
 ghost use Rattle.std.specs.Prelude.{◌≡◌};
-ghost use Rattle.scramble.specs.Words.{next, words_of};
+ghost use Rattle.scramble.specs.Words.{next, stream_of};
 
 use rand_chacha::ChaCha8Rng;
 use rand_core::SeedableRng;
 use rand_core::utils::NextWord;
 
 /// The generator of the words of a number, at its first word.
-#[tactic(auto, unfolding(crate::specs::Words::words_of))]
+#[tactic(auto, unfolding(crate::specs::Words::stream_of))]
 pub fn generator(number: u32) -> ChaCha8Rng
-    ensures { result ≡ words_of number }
+    ensures { result ≡ stream_of number }
 {
     let mut seed = [0u8; 32];
     seed[..4].copy_from_slice(&number.to_le_bytes());

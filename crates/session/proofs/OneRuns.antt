@@ -14,7 +14,7 @@ use Rattle.firing_core.specs.Stretches.{begins, is_begin, IsMixed, NoneFlies, Mi
 use Rattle.edit_commands.specs.Agreement.{SameEdit, SameEntry, SameEntries, SameCommand, SameCommands, StepsAgree}
 use Rattle.edit_commands.specs.Scripts.{CommandValue, RunCommand, EditCommand, ScrambleCommand, ShowCommand, MixCommand}
 use Rattle.scramble.specs.Rubbish.{AreDrawn, after_export}
-use Rattle.scramble.specs.Words.{Words, words_of}
+use Rattle.scramble.specs.Words.{Words, stream_of}
 use Rattle.report.specs.Verdicts.{verdict_text}
 use Rattle.session.specs.Laws.{OneScriptRun}
 use Rattle.session.specs.ScriptRuns.{Added, DoesLine, DoesLines, RunsRounds, MixesEdit, MakesEdit, Scrambles, ShowsCore, changes_devices, shown_after, poke}
@@ -318,7 +318,7 @@ module _ (one : LogsLeadToOne) (agree : StepsAgree) (keep : StepsKeepGood) (P : 
       let x : SameEntries U (map poke d.rubbish ++ r) (map poke t.rubbish ++ s) =
       subst (λ (l : List EntryValue). SameEntries U (map poke d.rubbish ++ r) (l ++ s)) (ap busy t.stretch ∙ busy_pokes t.rubbish)
       (subst (λ (l : List EntryValue). SameEntries U (l ++ r) (busy b.stretch ++ s)) (ap busy d.stretch ∙ busy_pokes d.rubbish) z) in
-      let long = drawn_length U (words_of n) (numbers c.net.devices) d.rubbish d.drawn ∙ sym (drawn_length U (words_of n) (numbers c.net.devices) t.rubbish t.drawn) in
+      let long = drawn_length U (stream_of n) (numbers c.net.devices) d.rubbish d.drawn ∙ sym (drawn_length U (stream_of n) (numbers c.net.devices) t.rubbish t.drawn) in
       let k = split_same U (map poke d.rubbish) (map poke t.rubbish) r s (length-map d.rubbish poke ∙ long ∙ sym (length-map t.rubbish poke)) x in
       let u : Run U c (map poke d.rubbish) next = subst (λ (l : List EntryValue). Run U c l next) d.stretch d.leads in
       let v : Run U c (map poke t.rubbish) other = subst (λ (l : List EntryValue). Run U c l other) t.stretch t.leads in

@@ -9,7 +9,7 @@ use Rattle.fc_values.specs.Fields.{is_in}
 use Rattle.fc_nodes.specs.Program.{Program, Unfolding, unfolding_of}
 use Rattle.topology.specs.declared.types.NetFault.TheVariants as net
 use Rattle.topology.specs.declared.types.Device.{Device}
-use Rattle.topology.specs.Networks.{Network, Lives, device_of, numbers}
+use Rattle.topology.specs.Networks.{Network, Lives, net_device_of, numbers}
 use Rattle.topology.specs.Changes.{first_fault}
 use Rattle.firing_core.specs.Books.{BookValue}
 use Rattle.firing_core.specs.Cores.{Core, Run}
@@ -102,11 +102,11 @@ rubbish_may U n w xs a = drawn_may U n (numbers n.devices) xs w (λ d h. h) a
 
 -- ---- the numbers of devices
 
-ids_of : (xs : List Device) → map (λ d. d.id) xs ≡ numbers (map device_of xs)
+ids_of : (xs : List Device) → map (λ d. d.id) xs ≡ numbers (map net_device_of xs)
 ids_of [] = refl
 ids_of (x ∷ xs) = ap (λ l. x.id ∷ l) (ids_of xs)
 
-pub live_numbers : (vs : List ℕ) (ds : List Device) (n : Network) → vs ≡ map (λ d. d.id) ds → map device_of ds ≡ n.devices → vs ≡ numbers n.devices
+pub live_numbers : (vs : List ℕ) (ds : List Device) (n : Network) → vs ≡ map (λ d. d.id) ds → map net_device_of ds ≡ n.devices → vs ≡ numbers n.devices
 live_numbers vs ds n e f = e ∙ ids_of ds ∙ ap numbers f
 
 pub nothing_left : {X : Type 0} (xs : List X) → length xs ≡ 0 → xs ≡ []

@@ -13,7 +13,7 @@ use Rattle.round_count.specs.Laws.{RoundsFollow}
 use Rattle.edit_commands.specs.JudgedCommands.{AreJudged, IsLeftBy, after_command}
 use Rattle.edit_commands.specs.Scripts.{Progress, CommandValue, RunCommand, EditCommand, ScrambleCommand, ShowCommand, MixCommand, at_start}
 use Rattle.scramble.specs.Rubbish.{SomeRubbish}
-use Rattle.scramble.specs.Words.{words_of}
+use Rattle.scramble.specs.Words.{stream_of}
 use Rattle.session.specs.Conditions.{Allows, AllowsMix}
 use Rattle.session.specs.Growing.{MayPoke}
 use Rattle.session.specs.Laws.{ScriptRunsLead, SomeScriptRun}
@@ -80,8 +80,8 @@ module _ (step : FaultlessStep) (keep : StepsKeepGood) (runs : RunsKeepGood) (pl
         record { stretch = refl; leads = (next, record { fits = h.fits; allowed = h.allowed; after = refl }, refl); none = refl; shows = refl },
       )
   some_line c at line (ScrambleCommand n) g h =
-      let xs = rubbish (unfolding_of P) (words_of n) (numbers c.net.devices) in
-      let r = poke_run (unfolding_of P) xs.0 c (rubbish_may (unfolding_of P) c.net (words_of n) xs.0 xs.1) in (
+      let xs = rubbish (unfolding_of P) (stream_of n) (numbers c.net.devices) in
+      let r = poke_run (unfolding_of P) xs.0 c (rubbish_may (unfolding_of P) c.net (stream_of n) xs.0 xs.1) in (
         record { stretch = map poke xs.0; parts = []; shown = [] },
         r.0,
         record { rubbish = xs.0; drawn = xs.1; stretch = refl; leads = r.1; none = refl; silent = refl },

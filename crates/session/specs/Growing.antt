@@ -9,7 +9,7 @@ use Rattle.firing_core.specs.Cores.{Run}
 use Rattle.firing_core.specs.CoreViews.{core_of}
 use Rattle.firing_core.specs.Entries.{EntryValue, entries_of}
 use Rattle.scramble.specs.Rubbish.{AreDrawn}
-use Rattle.scramble.specs.Words.{words_of}
+use Rattle.scramble.specs.Words.{stream_of}
 use Rattle.session.specs.ScriptRuns.{poke}
 
 -- a book with a stretch more in its log
@@ -27,5 +27,5 @@ MayPoke U n (x ∷ xs) = Lives n x.0 × IsExport U x.1 × MayPoke U n xs
 -- a book whose devices were poked with the rubbish of a number
 pub record Scrambled (number : ℕ) (old new : BookValue) : Type 0 where
   pub rubbish : List (ℕ × FlatExport)
-  pub drawn : AreDrawn (unfolding_of old.program) (words_of number) (numbers old.core.net.devices) rubbish
+  pub drawn : AreDrawn (unfolding_of old.program) (stream_of number) (numbers old.core.net.devices) rubbish
   pub grew : GrewBy old (map poke rubbish) new

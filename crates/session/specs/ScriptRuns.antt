@@ -9,7 +9,7 @@ use Rattle.firing_core.specs.Entries.{EntryValue, EditEntry}
 use Rattle.firing_core.specs.Cores.{Core, Run}
 use Rattle.firing_core.specs.Stretches.{RunStretch, MixStretch, IsMixed}
 use Rattle.edit_commands.specs.Scripts.{CommandValue, RunCommand, EditCommand, ScrambleCommand, ShowCommand, MixCommand}
-use Rattle.scramble.specs.Words.{words_of}
+use Rattle.scramble.specs.Words.{stream_of}
 use Rattle.scramble.specs.Rubbish.{AreDrawn}
 use Rattle.session.specs.Shown.{Shown, ShowsValues, ShowsVerdict, script_text, verdict_in}
 
@@ -72,7 +72,7 @@ poke x = EditEntry (PokeEdit x.0 x.1)
 
 pub record Scrambles (U : Unfolding) (c : Core) (number : ℕ) (a : Added) (next : Core) : Type 0 where
   pub rubbish : List (ℕ × FlatExport)
-  pub drawn : AreDrawn U (words_of number) (numbers c.net.devices) rubbish
+  pub drawn : AreDrawn U (stream_of number) (numbers c.net.devices) rubbish
   pub stretch : a.stretch ≡ map poke rubbish
   pub leads : Run U c a.stretch next
   pub none : a.parts ≡ []

@@ -8,7 +8,7 @@ ghost use Rattle.firing_core.specs.Books.{IsBook};
 ghost use Rattle.firing_core.specs.CoreViews.{core_of};
 ghost use Rattle.firing_core.specs.Entries.{EditEntry, edit_of};
 ghost use Rattle.scramble.specs.Rubbish.{AreDrawn, of_devices};
-ghost use Rattle.scramble.specs.Words.{words_of};
+ghost use Rattle.scramble.specs.Words.{stream_of};
 ghost use Rattle.session.specs.Conditions.{AllowsEdit};
 ghost use Rattle.session.specs.ScriptRuns.{poke, shown_after};
 ghost use Rattle.session.specs.Shown.{all_shown};

@@ -6,7 +6,7 @@ ghost use Rattle.session.specs.ScriptRuns.{part_of};
 use crate::edits::{copy_edit, make_and_show, scramble};
 use crate::pool::Pool;
 use crate::showing::{last_core, show_values};
-use edit_commands::{Command, Line};
+use edit_commands::{Line, ScriptCommand};
 use export_table::Gate;
 use fc_nodes::Verdict;
 use fc_values::Memory;
@@ -94,11 +94,11 @@ impl Session {
     {
         let number = line.number;
         match &line.command {
-            Command::Run(rounds) => self.run(alloc, number, *rounds, pool),
-            Command::Edit(edit) => self.edit(alloc, edit),
-            Command::Scramble(seed) => self.scramble(alloc, *seed),
-            Command::Show => self.show(alloc, number),
-            Command::Mix(rounds, edit) => self.mix(alloc, number, *rounds, edit, pool),
+            ScriptCommand::Run(rounds) => self.run(alloc, number, *rounds, pool),
+            ScriptCommand::Edit(edit) => self.edit(alloc, edit),
+            ScriptCommand::Scramble(seed) => self.scramble(alloc, *seed),
+            ScriptCommand::Show => self.show(alloc, number),
+            ScriptCommand::Mix(rounds, edit) => self.mix(alloc, number, *rounds, edit, pool),
         }
     }
 

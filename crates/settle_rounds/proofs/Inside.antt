@@ -9,7 +9,7 @@ use Rattle.fc_values.proofs.Rising.{rises_apart, rises_tail}
 use Rattle.fc_nodes.specs.Program.{Unfolding}
 use Rattle.device_eval.specs.Copies.{near_tree, env_of, situation_of}
 use Rattle.topology.specs.Networks.{Edge, near_in}
-use Rattle.topology.specs.Nearby.{near_numbers}
+use Rattle.topology.specs.Nearby.{neighbour_numbers}
 use Rattle.topology.proofs.Lemmas.{AllNear, near_fits, near_rises}
 use Rattle.firing_core.specs.Cores.{Map, near_with, near_copies, copy_of}
 use Rattle.value_bounds.specs.BoundBuiltins.{AreApart, maybe_numbers}
@@ -38,17 +38,17 @@ apart_test a b h = by_test (nat_eq a b) refl
     by_test true q = absurd (h (nat_same a b q))
 
 seats_apart : (table : BoundTable) (D : Declarations) (ds : List ℕ) (d : ℕ) (ns : List (ℕ × MaybeLink))
-    (es : List (ℕ × ℕ)) → near_ids ns ≡ near_numbers es → AllNear D ds d es
-    → Rises (near_numbers es) → AreApart d (maybes (map (seat_in table) ns))
+    (es : List (ℕ × ℕ)) → near_ids ns ≡ neighbour_numbers es → AllNear D ds d es
+    → Rises (neighbour_numbers es) → AreApart d (maybes (map (seat_in table) ns))
 seats_apart table D ds d [] es q a u = tt
 seats_apart table D ds d (n ∷ ns) [] q a u = absurd cc
 seats_apart table D ds d (n ∷ ns) (e ∷ es) q a u =
     let first : n.0 ≡ e.0 = cc in
-    let rest : near_ids ns ≡ near_numbers es = cc in (
+    let rest : near_ids ns ≡ neighbour_numbers es = cc in (
       apart_test n.0 d (λ k. a.0.other (sym first ∙ k)),
       ap (is_in n.0) (seat_numbers table ns ∙ rest)
-          ∙ subst (λ k. is_in k (near_numbers es) ≡ false) (sym first) (rises_apart e.0 (near_numbers es) u),
-      seats_apart table D ds d ns es rest a.1 (rises_tail e.0 (near_numbers es) u),
+          ∙ subst (λ k. is_in k (neighbour_numbers es) ≡ false) (sym first) (rises_apart e.0 (neighbour_numbers es) u),
+      seats_apart table D ds d ns es rest a.1 (rises_tail e.0 (neighbour_numbers es) u),
     )
 
 module _ (U : Unfolding) (E : Envelope) (table : BoundTable) (f : Map TreeExport)
@@ -109,7 +109,7 @@ pub firings_land_within : FiringsLandWithin
 firings_land_within U E N fits w bounds table at d l e v =
     let is_one : AllNear E.declared (ids E.devices) d (near_in d (map least_edge E.links)) =
     near_fits E.declared (ids E.devices) d (map least_edge E.links) fits.links in
-    let rise : Rises (near_numbers (near_in d (map least_edge E.links))) =
+    let rise : Rises (neighbour_numbers (near_in d (map least_edge E.links))) =
     near_rises E.declared (ids E.devices) d (map least_edge E.links) fits.links in
     let seen : Sees (TreeLies U.main) d (seats_in bounds E d) (env_of (copy_of N table d)) = record {
       own = own_seen U E bounds table at d (table d) (at d (may_live_of E N w d l));

@@ -43,6 +43,7 @@ cap_of U N = settle_cap (verdict_of U (length N.devices)) (length N.devices)
 abbrev pub settled_from : Unfolding → Network → BoundTable → Settlings
 settled_from U N start d = settles_to U (exact_envelope N) start (cap_of U N) d
 
+-- the settle rounds of devices with their values, counted from any exports
 abbrev pub settled_of : Unfolding → Network → Settlings
 settled_of U N d = settled_from U N (any_table U) d
 
@@ -60,6 +61,7 @@ rounds_of_yes (verdict.No place reason) = None
 abbrev pub settle_time : Verdict → List (Option (ℕ × LocalValue)) → Option ℕ
 settle_time v os = option_or (greatest_round os) (rounds_of_yes v)
 
+-- the settle time of a network whose devices have these settle rounds
 abbrev pub IsSettleTime : Unfolding → Network → Settlings → ℕ → Type 0
 IsSettleTime U N settled R =
     settle_time (verdict_of U (length N.devices)) (map settled (numbers N.devices)) ≡ Some R
@@ -90,7 +92,7 @@ pub record TimeLeads (Leads : Leading) (U : Unfolding) (N : Network) (settled : 
 abbrev pub TimeIsLow : Unfolding → Network → ℕ → Type 0
 TimeIsLow U N R = (K : ℕ) → verdict_of U (length N.devices) ≡ verdict.Yes K → R ≤ K
 
--- so it is from every start, over firings and over message links
+-- what settle rounds and the settle time promise from every start, over firings and over message links
 pub record SettlesWell (U : Unfolding) (N : Network) : Type 0 where
   pub rounds : RoundsLead (ReachedAt U N) N (settled_of U N)
   pub mail_rounds : RoundsLead (MailReachedAt U N) N (settled_of U N)

@@ -43,7 +43,7 @@ BoundsHoldFrom = (P : Program) (N : Network) → IsProgram P → IsNetwork N →
     → (i m d : ℕ) → Lives N d → i ≤ m → RoundsFrom (unfolding_of P) N m start last
     → MaybeLies (unfolding_of P) (rounds_from (unfolding_of P) N table i d) (last.exports d)
 
--- each such log leads from the core to an export of the device with this value
+-- each log without an edit that has so many rounds leads from the core to an export of the device with this value
 abbrev pub ReachedFrom : Unfolding → Network → Core → ℕ → ℕ → LocalValue → Type 0
 ReachedFrom U N start m d v =
     (last : Core) → RoundsFrom U N m start last → (e : TreeExport) × (last.exports d ≡ Some e) × (e.value ≡ v)

@@ -9,9 +9,9 @@ use Rattle.value_trees.specs.declared.copies.Snap.{Snap}
 use Rattle.value_trees.specs.Copies.{WhereSome, FitsCopy}
 use Rattle.value_trees.specs.Snaps.{tree_of, near_copy, snap_copy, IsExportOf, NearAreExports, IsSnap}
 use Rattle.topology.specs.declared.types.Device.{Device}
-use Rattle.topology.specs.Networks.{NetDevice, Network, device_of, numbers, Lives, inputs_in, near, IsNetwork}
+use Rattle.topology.specs.Networks.{NetDevice, Network, net_device_of, numbers, Lives, inputs_in, near, IsNetwork}
 use Rattle.firing_core.specs.Cores.{Core, near_copies, copy_of, IsGood}
-use Rattle.firing_core.specs.CoreViews.{slot_at}
+use Rattle.firing_core.specs.CoreViews.{device_slot}
 use Rattle.firing_core.specs.Laws.{CopiesFit}
 use Rattle.stable_field.specs.Tables.{AreExportSlots, table_of, heard_from}
 use Rattle.firing_core.proofs.Slots.{Distinct, rises_distinct, slot_map}
@@ -21,25 +21,25 @@ use Rattle.stable_field.proofs.Hearing.{heard_copies, heard_exports, slot_export
 use Rattle.stable_field.proofs.Levels.{good_table}
 
 -- of a network whose devices are these
-module _ (N : Network) (ds : List Device) (k : ℕ) (x : Device) (all : map device_of ds ≡ N.devices) where
+module _ (N : Network) (ds : List Device) (k : ℕ) (x : Device) (all : map net_device_of ds ≡ N.devices) where
   pub number_at : k < length N.devices → x ≡ get_or ds k x → get_or (numbers N.devices) k 0 ≡ x.id
-  number_at h q = subst (λ (ns : List NetDevice). get_or (numbers ns) k 0 ≡ x.id) all (at ds k (let l = length-map ds device_of in omega (arith, h, l, ap length all)) q)
+  number_at h q = subst (λ (ns : List NetDevice). get_or (numbers ns) k 0 ≡ x.id) all (at ds k (let l = length-map ds net_device_of in omega (arith, h, l, ap length all)) q)
     where
-      at : (es : List Device) (i : ℕ) → i < length es → x ≡ get_or es i x → get_or (numbers (map device_of es)) i 0 ≡ x.id
+      at : (es : List Device) (i : ℕ) → i < length es → x ≡ get_or es i x → get_or (numbers (map net_device_of es)) i 0 ≡ x.id
       at [] i h q = absurd (omega arith)
       at (e ∷ es) zero h q = rw q refl
       at (e ∷ es) (suc i) h q = at es i (omega arith) q
 
   pub device_inputs : IsNetwork N → k < length N.devices → x ≡ get_or ds k x → map local_of x.inputs.items ≡ inputs_in x.id N.devices
   device_inputs net h q =
-      let n : Distinct (numbers (map device_of ds)) = subst (λ (ns : List NetDevice). Distinct (numbers ns)) (sym all) (rises_distinct (numbers N.devices) net.rising) in
-      let l = length-map ds device_of in
-      let at : get_or (numbers (map device_of ds)) k 0 ≡ x.id = subst (λ (ns : List NetDevice). get_or (numbers ns) k 0 ≡ x.id) (sym all) (number_at h q) in
+      let n : Distinct (numbers (map net_device_of ds)) = subst (λ (ns : List NetDevice). Distinct (numbers ns)) (sym all) (rises_distinct (numbers N.devices) net.rising) in
+      let l = length-map ds net_device_of in
+      let at : get_or (numbers (map net_device_of ds)) k 0 ≡ x.id = subst (λ (ns : List NetDevice). get_or (numbers ns) k 0 ≡ x.id) (sym all) (number_at h q) in
       inputs_at ds k x.id x n (omega (arith, h, l, ap length all)) q at ∙ ap (inputs_in x.id) all
 
 module _ (U : Unfolding) (N : Network) (xs : List (Option Export)) (t : AreExportSlots U N xs) (net : IsNetwork N) (same : N.declared ≡ U.declared) (k d : ℕ) (h : k < length N.devices) (at : get_or (numbers N.devices) k 0 ≡ d)
     (s : Snap) (device : s.device ≡ d) (inputs : map local_of s.inputs.items ≡ inputs_in d N.devices) (own : s.own ≡ get_or xs k None) (heard : s.near.items ≡ heard_from (numbers N.devices) xs (near N d)) where
-  own_is : slot_at (numbers N.devices) xs d ≡ s.own
+  own_is : device_slot (numbers N.devices) xs d ≡ s.own
   own_is = slot_read N net xs k d s.own t.many h at own
 
   pub begun_copy : snap_copy U s ≡ copy_of N (table_of U N xs) d

@@ -10,7 +10,7 @@ use Rattle.fc_values.specs.Types.{LocalType, ValueType, TypeLocal, TypeField, De
 use Rattle.fc_values.specs.Values.{LocalValue, Fits}
 use Rattle.fc_values.specs.Fields.{AnyValue, ValueLocal, ValueField, Entries, FitsOver, FitEachOver, Rises, devices, entry_of, is_in}
 use Rattle.fc_values.proofs.BuiltinTyped.{builtin_typed}
-use Rattle.fc_nodes.specs.Terms.{Term, Apply, NoMore, More, type_of, size, Sort, OfLeaf, OfApply, OfNbr, OfEvolve, OfIf, OfLet, Has, view_of, view_at, sort_of, term_by, term_at, HasNode}
+use Rattle.fc_nodes.specs.Terms.{Term, Apply, NoMore, More, term_type, size, Sort, OfLeaf, OfApply, OfNbr, OfEvolve, OfIf, OfLet, Has, view_of, view_at, sort_of, term_by, term_at, HasNode}
 use Rattle.fc_nodes.specs.declared.nodes.Node.{Node}
 use Rattle.fc_nodes.specs.declared.nodes.Op.{Op}
 use Rattle.fc_nodes.specs.declared.nodes.Op.TheVariants as op
@@ -25,7 +25,7 @@ use Rattle.interval_facts.specs.Solutions.{In, around, no_binders, local_map, So
 use Rattle.interval_facts.proofs.Claims.{fits_of}
 use Rattle.converge_laws.specs.Stabilising.{HasOneSolution}
 use Rattle.closed_terms.specs.Parts.{IsClosedTerm}
-use Rattle.stable_field.specs.declared.terms.Known.{Known}
+use Rattle.stable_field.specs.declared.terms.ClosedProgram.{ClosedProgram}
 use Rattle.stable_field.specs.Stable.{IsStableField}
 use Rattle.stable_field.specs.Columns.{IsColumn, IsKnown, AllKnown, IsJoin, value_of_two, joined_value, HasLocal, HaveLocal, joined_entries}
 use Rattle.stable_field.proofs.Firings.{devices_are}
@@ -60,7 +60,7 @@ module _ (U : Unfolding) (N : Network) (one : HasOneSolution U N) (es : Entries)
 pub column_rises : (U : Unfolding) (N : Network) (es : Entries) → IsNetwork N → IsStableField U N es → Rises (devices es)
 column_rises U N es net s = subst Rises (sym (ap devices s.values ∙ devices_are s.one.field (numbers N.devices))) net.rising
 
-pub one_known : (D : Declarations) (N : Network) (ks : List Known) (k : Known) → AllKnown D N ks → IsKnown D N k → AllKnown D N (ks ++ k ∷ [])
+pub one_known : (D : Declarations) (N : Network) (ks : List ClosedProgram) (k : ClosedProgram) → AllKnown D N ks → IsKnown D N k → AllKnown D N (ks ++ k ∷ [])
 one_known D N [] k a h = (h, tt)
 one_known D N (j ∷ ks) k a h = (a.0, one_known D N ks k a.1 h)
 
@@ -98,7 +98,7 @@ module _ (P : Program) (p end : ℕ) (t : IsClosedTerm P p end) (o : Builtin) (a
   }
 
   type_local : j.type ≡ TypeLocal t.local.0
-  type_local = sym (ap type_of j.term) ∙ t.local.1
+  type_local = sym (ap term_type j.term) ∙ t.local.1
 
   module _ (N : Network) (es fs : Entries) (ca : IsColumn N a x es) (cb : IsColumn N b y fs) where
     abbrev M : ℕ
@@ -117,10 +117,10 @@ module _ (P : Program) (p end : ℕ) (t : IsClosedTerm P p end) (o : Builtin) (a
 
     made : (d : ℕ) → In (lives N) d → HasLocal o M d (ca.field d) (cb.field d) × Fits M t.local.0 (H d)
     made d i =
-        let fa = anywhere (around N (lives N) d) (type_of x) j.first_local.0 (ca.field d) j.first_local.1 (fits_of N x a (lives N) no_binders (local_map ca.field) ca.solves d i) in
-        let fb = anywhere (around N (lives N) d) (type_of y) j.second_local.0 (cb.field d) j.second_local.1 (fits_of N y b (lives N) no_binders (local_map cb.field) cb.solves d i) in
-        let rest : FitEachOver M [] (type_of y ∷ []) (ValueLocal (cb.field d) ∷ []) = (fb, tt) in
-        let h = builtin_typed o M d [] (type_of x ∷ type_of y ∷ []) j.type (ValueLocal (ca.field d) ∷ ValueLocal (cb.field d) ∷ []) typed.0 refl (fa, rest) in
+        let fa = anywhere (around N (lives N) d) (term_type x) j.first_local.0 (ca.field d) j.first_local.1 (fits_of N x a (lives N) no_binders (local_map ca.field) ca.solves d i) in
+        let fb = anywhere (around N (lives N) d) (term_type y) j.second_local.0 (cb.field d) j.second_local.1 (fits_of N y b (lives N) no_binders (local_map cb.field) cb.solves d i) in
+        let rest : FitEachOver M [] (term_type y ∷ []) (ValueLocal (cb.field d) ∷ []) = (fb, tt) in
+        let h = builtin_typed o M d [] (term_type x ∷ term_type y ∷ []) j.type (ValueLocal (ca.field d) ∷ ValueLocal (cb.field d) ∷ []) typed.0 refl (fa, rest) in
         by_value d h.0 h.1 (subst (λ u. FitsOver M [] u h.0) type_local h.2)
 
     solves : Solves N p (Apply j.type o (More x (More y NoMore))) (lives N) no_binders (local_map H)
@@ -160,7 +160,7 @@ module _ (P : Program) (p end : ℕ) (t : IsClosedTerm P p end) (o : Builtin) (a
 
 -- ---- a node with two kids of local type
 
-of_type : (go : ℕ → Term) (s : Sort) (t : ValueType) (ks : List ℕ) → type_of (term_by go s t ks) ≡ t
+of_type : (go : ℕ → Term) (s : Sort) (t : ValueType) (ks : List ℕ) → term_type (term_by go s t ks) ≡ t
 of_type go (OfLeaf l) t ks = refl
 of_type go (OfApply o) t ks = refl
 of_type go OfNbr t [] = refl
@@ -180,8 +180,8 @@ of_type go OfLet t (a ∷ []) = refl
 of_type go OfLet t (a ∷ b ∷ []) = refl
 of_type go OfLet t (a ∷ b ∷ c ∷ ks) = refl
 
-pub node_type : (P : Program) → IsProgram P → (p : ℕ) (s : Sort) (t : ValueType) (ks : List ℕ) → HasNode P.nodes p s t ks → type_of (term_at P.nodes p) ≡ t
-node_type P program p s t ks h = ap type_of (term_is P.nodes (formed_above P.nodes program.formed) p s t ks h) ∙ of_type (term_at P.nodes) s t ks
+pub node_type : (P : Program) → IsProgram P → (p : ℕ) (s : Sort) (t : ValueType) (ks : List ℕ) → HasNode P.nodes p s t ks → term_type (term_at P.nodes p) ≡ t
+node_type P program p s t ks h = ap term_type (term_is P.nodes (formed_above P.nodes program.formed) p s t ks h) ∙ of_type (term_at P.nodes) s t ks
 
 module _ (P : Program) (program : IsProgram P) (p : ℕ) (st : StandsAt P.nodes p) (o : Builtin) (t : ValueType) (ks : List ℕ) (h : HasNode P.nodes p (OfApply o) t ks) (a b : ℕ) (e : ks ≡ a ∷ b ∷ []) where
   two : HasNode P.nodes p (OfApply o) t (a ∷ b ∷ [])
@@ -193,7 +193,7 @@ module _ (P : Program) (program : IsProgram P) (p : ℕ) (st : StandsAt P.nodes 
   pub second_stands : StandsAt P.nodes b
   second_stands = (kids_stand P.nodes (formed_above P.nodes program.formed) p st (OfApply o) t (a ∷ b ∷ []) two).2.1
 
-  pub is_join : (s : LocalType) → type_of (term_at P.nodes a) ≡ TypeLocal s → (r : LocalType) → type_of (term_at P.nodes b) ≡ TypeLocal r → IsJoin P p o a b
+  pub is_join : (s : LocalType) → term_type (term_at P.nodes a) ≡ TypeLocal s → (r : LocalType) → term_type (term_at P.nodes b) ≡ TypeLocal r → IsJoin P p o a b
   is_join s f r g =
       let k = apply_laid P.nodes (formed_above P.nodes program.formed) p o t (a ∷ b ∷ []) two st.laid in
       let q = k.stand_at in
@@ -213,7 +213,7 @@ module _ (P : Program) (program : IsProgram P) (p : ℕ) (st : StandsAt P.nodes 
 pub apply_node : (ns : List Node) (p : ℕ) (n : Node) (o : Builtin) → n.op ≡ op.Apply o → view_at ns p ≡ Some (view_of n) → HasNode ns p (OfApply o) (value_type_of n.ty) n.kids.items
 apply_node ns p n o e h = h ∙ ap (λ (x : Op). Some (Has (sort_of x) (value_type_of n.ty) n.kids.items)) e
 
-pub local_node : (P : Program) → IsProgram P → (p : ℕ) (n : Node) (x : LocalTy) → n.ty ≡ ty.Local x → view_at P.nodes p ≡ Some (view_of n) → (s : LocalType) × (type_of (term_at P.nodes p) ≡ TypeLocal s)
+pub local_node : (P : Program) → IsProgram P → (p : ℕ) (n : Node) (x : LocalTy) → n.ty ≡ ty.Local x → view_at P.nodes p ≡ Some (view_of n) → (s : LocalType) × (term_type (term_at P.nodes p) ≡ TypeLocal s)
 local_node P program p n x e h = (local_type_of x, node_type P program p (sort_of n.op) (value_type_of n.ty) n.kids.items h ∙ ap value_type_of e)
 
 -- a list of two

@@ -13,7 +13,7 @@ use Rattle.value_trees.specs.Copies.{WhereSome}
 use Rattle.value_trees.specs.Snaps.{tree_of, IsExportOf}
 use Rattle.topology.specs.Networks.{Network, numbers, Lives, lives, IsNetwork}
 use Rattle.firing_core.specs.Cores.{GoodExport}
-use Rattle.firing_core.specs.CoreViews.{slot_at, AllExports}
+use Rattle.firing_core.specs.CoreViews.{device_slot, AllExports}
 use Rattle.interval_facts.specs.Solutions.{SolvesMain, local_map, no_binders}
 use Rattle.converge_laws.specs.CoreLevels.{ExportLevel, MaybeAt, TableAt, GoodTable, Raises}
 use Rattle.converge_laws.specs.Invariant.{ExportAt, no_stage}
@@ -26,7 +26,7 @@ use Rattle.stable_field.proofs.SameLevels.{holds_same}
 
 -- the exports in slots are well-typed ones of devices that are there
 good_slots : (U : Unfolding) (N : Network) (is : List ℕ) (xs : List (Option Export)) → ((d : ℕ) → is_in d is ≡ true → Lives N d) → AllExports U xs
-    → (d : ℕ) (e : TreeExport) → slot_at is (map (option_map (tree_of U)) xs) d ≡ Some e → GoodExport U N d e
+    → (d : ℕ) (e : TreeExport) → device_slot is (map (option_map (tree_of U)) xs) d ≡ Some e → GoodExport U N d e
 good_slots U N [] xs live a d e q = absurd cc
 good_slots U N (i ∷ is) [] live a d e q = absurd cc
 good_slots U N (i ∷ is) (x ∷ xs) live a d e q =
@@ -39,8 +39,8 @@ good_slots U N (i ∷ is) (x ∷ xs) live a d e q =
         or_true true h = refl
         or_true false h = h
 
-    by_test : (b : Bool) → nat_eq d i ≡ b → (if b then option_map (tree_of U) x else slot_at is (map (option_map (tree_of U)) xs) d) ≡ Some e
-        → (slot_at is (map (option_map (tree_of U)) xs) d ≡ Some e → GoodExport U N d e) → GoodExport U N d e
+    by_test : (b : Bool) → nat_eq d i ≡ b → (if b then option_map (tree_of U) x else device_slot is (map (option_map (tree_of U)) xs) d) ≡ Some e
+        → (device_slot is (map (option_map (tree_of U)) xs) d ≡ Some e → GoodExport U N d e) → GoodExport U N d e
     by_test true t q ih = by_slot x a.0 q
       where
         here : Lives N d
@@ -77,7 +77,7 @@ module _ (U : Unfolding) (N : Network) (P : ExportLevel) (raises : Raises P U N)
 
     -- the exports of firings are one level up
     raised : (ds : List ℕ) (ys : List (Option Export)) → AreFirings U N xs ds ys → ((d : ℕ) → is_in d ds ≡ true → Lives N d)
-        → (d : ℕ) → is_in d ds ≡ true → MaybeAt P (suc j) d (slot_at ds (map (option_map (tree_of U)) ys) d)
+        → (d : ℕ) → is_in d ds ≡ true → MaybeAt P (suc j) d (device_slot ds (map (option_map (tree_of U)) ys) d)
     raised [] ys f live d i = absurd cc
     raised (c ∷ ds) [] f live d i = absurd f
     raised (c ∷ ds) (None ∷ ys) f live d i = absurd f
@@ -90,8 +90,8 @@ module _ (U : Unfolding) (N : Network) (P : ExportLevel) (raises : Raises P U N)
             or_true true h = refl
             or_true false h = h
 
-        by_test : (b : Bool) → nat_eq d c ≡ b → (b || is_in d ds) ≡ true → (is_in d ds ≡ true → MaybeAt P (suc j) d (slot_at ds (map (option_map (tree_of U)) ys) d))
-            → MaybeAt P (suc j) d (if b then Some (tree_of U e) else slot_at ds (map (option_map (tree_of U)) ys) d)
+        by_test : (b : Bool) → nat_eq d c ≡ b → (b || is_in d ds) ≡ true → (is_in d ds ≡ true → MaybeAt P (suc j) d (device_slot ds (map (option_map (tree_of U)) ys) d))
+            → MaybeAt P (suc j) d (if b then Some (tree_of U e) else device_slot ds (map (option_map (tree_of U)) ys) d)
         by_test true t i ih = fires d e (live d (rw t refl)) (subst (λ n. IsFiring U N xs n e) (sym (eqb-true d c t)) f.0)
         by_test false t i ih = ih i
 
@@ -125,7 +125,7 @@ module _ (laws : SolutionsRaiseLevels) (P : Program) (N : Network) (program : Is
     }
 
     moved : (F : ℕ → LocalValue) (s : SolvesMain N U.main F) (j d : ℕ) (ds : List ℕ) (xs ys : List (Option Export)) → SameExports is xs ys → AllExports U xs
-        → MaybeAt (At F s) j d (slot_at ds (map (option_map (tree_of U)) ys) d) → MaybeAt (At F s) j d (slot_at ds (map (option_map (tree_of U)) xs) d)
+        → MaybeAt (At F s) j d (device_slot ds (map (option_map (tree_of U)) ys) d) → MaybeAt (At F s) j d (device_slot ds (map (option_map (tree_of U)) xs) d)
     moved F s j d [] xs ys q w h = h
     moved F s j d (c ∷ ds) [] [] q w h = h
     moved F s j d (c ∷ ds) [] (y ∷ ys) q w h = absurd q
@@ -138,9 +138,9 @@ module _ (laws : SolutionsRaiseLevels) (P : Program) (N : Network) (program : Is
         by_slot (Some a) None q w h = absurd q
         by_slot (Some a) (Some b) q w h = same_export F s j d a b w q h
 
-        by_test : (t : Bool) → MaybeAt (At F s) j d (if t then option_map (tree_of U) y else slot_at ds (map (option_map (tree_of U)) ys) d)
-            → (MaybeAt (At F s) j d (slot_at ds (map (option_map (tree_of U)) ys) d) → MaybeAt (At F s) j d (slot_at ds (map (option_map (tree_of U)) xs) d))
-            → MaybeAt (At F s) j d (if t then option_map (tree_of U) x else slot_at ds (map (option_map (tree_of U)) xs) d)
+        by_test : (t : Bool) → MaybeAt (At F s) j d (if t then option_map (tree_of U) y else device_slot ds (map (option_map (tree_of U)) ys) d)
+            → (MaybeAt (At F s) j d (device_slot ds (map (option_map (tree_of U)) ys) d) → MaybeAt (At F s) j d (device_slot ds (map (option_map (tree_of U)) xs) d))
+            → MaybeAt (At F s) j d (if t then option_map (tree_of U) x else device_slot ds (map (option_map (tree_of U)) xs) d)
         by_test true h ih = by_slot x y q.0 w.0 h
         by_test false h ih = ih h
 

@@ -5,12 +5,12 @@ use Rattle.fc_values.specs.Types.{LocalType, ValueType, TypeLocal, Declarations}
 use Rattle.fc_values.specs.Values.{LocalValue, IntValue}
 use Rattle.fc_values.specs.Fields.{AnyValue, ValueLocal, ValueField, Entries, entry_of}
 use Rattle.fc_values.specs.Builtins.{builtin_value}
-use Rattle.fc_nodes.specs.Terms.{Term, Apply, NoMore, More, type_of, size, term_at}
+use Rattle.fc_nodes.specs.Terms.{Term, Apply, NoMore, More, term_type, size, term_at}
 use Rattle.fc_nodes.specs.Places.{StandsAt}
 use Rattle.fc_nodes.specs.Program.{Program}
 use Rattle.topology.specs.Networks.{Network, lives, numbers}
 use Rattle.interval_facts.specs.Solutions.{no_binders, local_map, Solves}
-use Rattle.stable_field.specs.declared.terms.Known.{Known}
+use Rattle.stable_field.specs.declared.terms.ClosedProgram.{ClosedProgram}
 
 -- the values, by rising devices, of a field that solves a closed term over all devices
 pub record IsColumn (N : Network) (p : ℕ) (t : Term) (es : Entries) : Type 0 where
@@ -19,11 +19,11 @@ pub record IsColumn (N : Network) (p : ℕ) (t : Term) (es : Entries) : Type 0 w
   pub solves : Solves N p t (lives N) no_binders (local_map field)
 
 -- a program with these declarations, and its column
-pub record IsKnown (D : Declarations) (N : Network) (k : Known) : Type 0 where
+pub record IsKnown (D : Declarations) (N : Network) (k : ClosedProgram) : Type 0 where
   pub declared : k.program.declared ≡ D
   pub column : IsColumn N 0 (term_at k.program.nodes 0) (map entry_of k.values.items)
 
-abbrev pub AllKnown : Declarations → Network → List Known → Type 0
+abbrev pub AllKnown : Declarations → Network → List ClosedProgram → Type 0
 AllKnown D N [] = Unit {0}
 AllKnown D N (k ∷ ks) = IsKnown D N k × AllKnown D N ks
 
@@ -36,8 +36,8 @@ pub record IsJoin (P : Program) (p : ℕ) (o : Builtin) (a b : ℕ) : Type 0 whe
   pub second_is : b ≡ suc p + size (term_at P.nodes a)
   pub first : StandsAt P.nodes a
   pub second : StandsAt P.nodes b
-  pub first_local : (s : LocalType) × (type_of (term_at P.nodes a) ≡ TypeLocal s)
-  pub second_local : (s : LocalType) × (type_of (term_at P.nodes b) ≡ TypeLocal s)
+  pub first_local : (s : LocalType) × (term_type (term_at P.nodes a) ≡ TypeLocal s)
+  pub second_local : (s : LocalType) × (term_type (term_at P.nodes b) ≡ TypeLocal s)
 
 -- a local value, where it is one
 abbrev pub local_in : Option AnyValue → LocalValue

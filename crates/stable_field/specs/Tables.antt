@@ -9,12 +9,12 @@ use Rattle.value_trees.specs.Snaps.{tree_of, IsExportOf}
 use Rattle.device_eval.specs.Copies.{EvaluatesCopy}
 use Rattle.topology.specs.Networks.{Network, numbers}
 use Rattle.firing_core.specs.Cores.{Map, copy_of}
-use Rattle.firing_core.specs.CoreViews.{slot_at, AllExports}
+use Rattle.firing_core.specs.CoreViews.{device_slot, AllExports}
 use Rattle.interval_facts.specs.Solutions.{SolvesMain}
 
 -- the table that slots stand for, one for each device in the order of the network
 abbrev pub table_of : Unfolding → Network → List (Option Export) → Map TreeExport
-table_of U N xs = slot_at (numbers N.devices) (map (option_map (tree_of U)) xs)
+table_of U N xs = device_slot (numbers N.devices) (map (option_map (tree_of U)) xs)
 
 -- a slot for each device, with exports of the program
 pub record AreExportSlots (U : Unfolding) (N : Network) (xs : List (Option Export)) : Type 0 where
@@ -48,7 +48,7 @@ heard_with n (Some e) ns = record { device = n.0; weight = n.1; export = e } ∷
 -- the neighbours that have an export, with it
 abbrev pub heard_from : List ℕ → List (Option Export) → List (ℕ × ℕ) → List Near
 heard_from is xs [] = []
-heard_from is xs (n ∷ ns) = heard_with n (slot_at is xs n.0) (heard_from is xs ns)
+heard_from is xs (n ∷ ns) = heard_with n (device_slot is xs n.0) (heard_from is xs ns)
 
 -- ---- what rounds lead to
 

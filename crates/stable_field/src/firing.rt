@@ -4,7 +4,7 @@ ghost use Rattle.std.specs.Prelude.{◌≡◌, ◌<◌, IfOk, length, slice_inde
 ghost use Rattle.std.specs.Option.{option_copied};
 ghost use Rattle.fc_nodes.specs.Program.{unfolding_of};
 ghost use Rattle.topology.specs.Networks.{numbers};
-ghost use Rattle.firing_core.specs.CoreViews.{slot_at};
+ghost use Rattle.firing_core.specs.CoreViews.{device_slot};
 ghost use Rattle.stable_field.specs.Tables.{AreExportSlots, IsFiring, heard_from};
 
 use device_eval::{Scratch, publish};
@@ -85,7 +85,7 @@ fn heard(
 // The export of a device in a table, if it has one.
 fn held<'t>(net: &Network, table: &'t ExportTable, device: u32) -> Option<&'t Published>
     requires { length table.now.items ≡ length net.now.devices }
-    ensures { option_copied result ≡ slot_at (numbers net.now.devices) table.now.items device }
+    ensures { option_copied result ≡ device_slot (numbers net.now.devices) table.now.items device }
 {
     let place = net.place(device)?;
     table[place].as_ref()

@@ -3,7 +3,7 @@
 ghost use Rattle.std.specs.Prelude.{◌≡◌, IfOk, IfSome, IsTrue, OnOk, map};
 ghost use Rattle.fc_values.specs.Types.{LocalType, TypeLocal};
 ghost use Rattle.fc_values.specs.Fields.{entry_of};
-ghost use Rattle.fc_nodes.specs.Terms.{term_at, type_of};
+ghost use Rattle.fc_nodes.specs.Terms.{term_at, term_type};
 ghost use Rattle.fc_nodes.specs.Places.{StandsAt};
 ghost use Rattle.value_trees.specs.Copies.{WhereSome};
 ghost use Rattle.closed_terms.specs.Parts.{IsClosedTerm, IsClosedPart};
@@ -22,7 +22,7 @@ pub type DeviceValues = Vec<(u32, Local)>;
 
 /// A closed term as a program, with its values.
 #[derive(Drop)]
-pub struct Known {
+pub struct ClosedProgram {
     pub program: Unfolded,
     pub values: DeviceValues,
 }
@@ -42,7 +42,7 @@ pub fn term_column(
     net: &Network,
     place: u32,
     end: u32,
-    known: &mut Vec<Known>,
+    known: &mut Vec<ClosedProgram>,
 ) -> Result<Option<DeviceValues>, Memory>
     requires declared { net.now.declared ≡ program.now.declared }
     requires term { IsClosedTerm program.now place end }
@@ -91,7 +91,7 @@ pub fn join_at(program: &Unfolded, place: u32) -> Option<Join>
 
 fn is_local(program: &Unfolded, place: u32) -> bool
     requires { StandsAt program.now.nodes place }
-    ensures { IsTrue result → (s : LocalType) × (type_of (term_at program.now.nodes place) ≡ TypeLocal s) }
+    ensures { IsTrue result → (s : LocalType) × (term_type (term_at program.now.nodes place) ≡ TypeLocal s) }
 {
     match &program.node(place).ty {
         Ty::Local(_) => true,
@@ -106,7 +106,7 @@ fn closed_column(
     net: &Network,
     place: u32,
     end: u32,
-    known: &mut Vec<Known>,
+    known: &mut Vec<ClosedProgram>,
 ) -> Result<Option<DeviceValues>, Memory>
     requires term { IsClosedTerm program.now place end }
     requires declared { net.now.declared ≡ program.now.declared }
@@ -124,7 +124,7 @@ fn closed_column(
         return Ok(None);
     };
     let copies = copied(alloc, &values)?;
-    known.push(Known {
+    known.push(ClosedProgram {
         program: part,
         values,
     })?;
@@ -137,8 +137,8 @@ fn find<'a>(
     net: &Network,
     place: u32,
     end: u32,
-    known: &'a [Known],
-) -> Option<&'a Known>
+    known: &'a [ClosedProgram],
+) -> Option<&'a ClosedProgram>
     requires term { IsClosedTerm program.now place end }
     requires known { AllKnown program.now.declared net.now known.now }
     ensures part { IfSome result (λ k. IsClosedPart program.now place k.now.program) }

@@ -5,7 +5,7 @@ use Rattle.std.proofs.lemmas.List.{length-map, get_or-map, map-set, get_or-set_o
 use Rattle.arrayvec.specs.ArrayVec.{ArrayVec}
 use Rattle.fc_values.specs.Values.{LocalValue}
 use Rattle.topology.specs.declared.types.Device.{Device}
-use Rattle.topology.specs.Networks.{NetDevice, Network, device_of, IsNetwork, numbers, near_in, near}
+use Rattle.topology.specs.Networks.{NetDevice, Network, net_device_of, IsNetwork, numbers, near_in, near}
 use Rattle.topology.specs.Changes.{drop_links, insert_device, link_fault, linked, unlinked, nth_fault, with_input, join_fault, joined, leave_fault, left}
 use Rattle.topology.specs.Nearby.{near_each, items_of, drop_near, insert_near, drawn, AtPlace, AtEnds, IsDrawn}
 use Rattle.topology.proofs.Lists.{map_insert}
@@ -108,17 +108,17 @@ module _ (n : Network) (near_lists : List Nearby) (k : IsDrawn n (map items_of n
       }
 
   -- the draft with one device more
-  pub add_kept : (x : Device) (at : ℕ) (xs ys : List Device) (new : List Nearby) (empty : Nearby) → n.devices ≡ map device_of xs → x.id ≤ 65535 → join_fault n (device_of x) ≡ None
-      → at ≡ prefix_len (λ (d : NetDevice). nat_lt d.id x.id) (map device_of xs) → ys ≡ insert xs at x → new ≡ insert near_lists at empty → empty.items ≡ []
-      → IsDrawn (drawn n.declared (map device_of ys) (map items_of new)) (map items_of new) × (drawn n.declared (map device_of ys) (map items_of new) ≡ joined n (device_of x))
+  pub add_kept : (x : Device) (at : ℕ) (xs ys : List Device) (new : List Nearby) (empty : Nearby) → n.devices ≡ map net_device_of xs → x.id ≤ 65535 → join_fault n (net_device_of x) ≡ None
+      → at ≡ prefix_len (λ (d : NetDevice). nat_lt d.id x.id) (map net_device_of xs) → ys ≡ insert xs at x → new ≡ insert near_lists at empty → empty.items ≡ []
+      → IsDrawn (drawn n.declared (map net_device_of ys) (map items_of new)) (map items_of new) × (drawn n.declared (map net_device_of ys) (map items_of new) ≡ joined n (net_device_of x))
   add_kept x at xs ys new empty same small e place put near none =
       let p = λ (d : NetDevice). nat_lt d.id x.id in
-      let order : insert (map device_of xs) at (device_of x) ≡ insert_device (device_of x) (map device_of xs) =
-      ap (λ k. insert (map device_of xs) k (device_of x)) place ∙ insert_prefix p (device_of x) (map device_of xs) in
-      let devices : map device_of ys ≡ insert_device (device_of x) n.devices =
-      ap (map device_of) put ∙ map_insert device_of xs at x ∙ order ∙ ap (insert_device (device_of x)) (sym same) in
-      let kept = join_kept (device_of x) at new empty small e (ap (λ ds. insert ds at (device_of x)) same ∙ order ∙ ap (insert_device (device_of x)) (sym same)) near none in
-      rw devices (drawn_kept (joined n (device_of x)) (map items_of new) kept, drawn_is (joined n (device_of x)) (map items_of new) kept)
+      let order : insert (map net_device_of xs) at (net_device_of x) ≡ insert_device (net_device_of x) (map net_device_of xs) =
+      ap (λ k. insert (map net_device_of xs) k (net_device_of x)) place ∙ insert_prefix p (net_device_of x) (map net_device_of xs) in
+      let devices : map net_device_of ys ≡ insert_device (net_device_of x) n.devices =
+      ap (map net_device_of) put ∙ map_insert net_device_of xs at x ∙ order ∙ ap (insert_device (net_device_of x)) (sym same) in
+      let kept = join_kept (net_device_of x) at new empty small e (ap (λ ds. insert ds at (net_device_of x)) same ∙ order ∙ ap (insert_device (net_device_of x)) (sym same)) near none in
+      rw devices (drawn_kept (joined n (net_device_of x)) (map items_of new) kept, drawn_is (joined n (net_device_of x)) (map items_of new) kept)
 
   pub leave_kept : (d at : ℕ) (new : List Nearby) → AtPlace n d at → leave_fault n d ≡ None
       → map items_of new ≡ map (λ ns. drop_near d ns) (map items_of (remove near_lists at))

@@ -12,7 +12,7 @@ use Rattle.topology.specs.declared.types.MakeFault.TheVariants as make
 use Rattle.topology.specs.declared.types.NetFault.{NetFault}
 use Rattle.topology.specs.declared.types.NetFault.TheVariants as fault
 use Rattle.topology.specs.Inputs.{inputs_fault, or_fault}
-use Rattle.topology.specs.Networks.{NetDevice, device_of, numbers, DevicesFit, IsNetwork}
+use Rattle.topology.specs.Networks.{NetDevice, net_device_of, numbers, DevicesFit, IsNetwork}
 use Rattle.topology.specs.Changes.{put_input, nth_fault, twice_fault, devices_fault, at_index, make_fault, made, RefusesMake, HaveNumbers, HaveInputs}
 use Rattle.topology.specs.Nearby.{near_each}
 use Rattle.topology.proofs.Devices.{or_none, inputs_length}
@@ -103,7 +103,7 @@ nth_within [] i v e = absurd (cc)
 nth_within (x ∷ xs) zero v e = omega arith
 nth_within (x ∷ xs) (suc i) v e = let k = nth_within xs i v e in omega arith
 
-pub inputs_long : (D : Declarations) (xs : List Device) (i : ℕ) (d : Device) → DevicesFit D (map device_of xs) → i < length xs → length (get_or xs i d).inputs.items ≡ length D.inputs
+pub inputs_long : (D : Declarations) (xs : List Device) (i : ℕ) (d : Device) → DevicesFit D (map net_device_of xs) → i < length xs → length (get_or xs i d).inputs.items ≡ length D.inputs
 inputs_long D [] i d f l = absurd (omega arith)
 inputs_long D (x ∷ xs) zero d f l = sym (length-map x.inputs.items local_of) ∙ inputs_length D.inputs (map local_of x.inputs.items) f.1
 inputs_long D (x ∷ xs) (suc i) d f l = inputs_long D xs i d f.2 (omega arith)
@@ -125,13 +125,13 @@ put_at (n ∷ ns) (suc at) d i v m x r l e f =
     rw (ne_eqb d n.id (λ q. absurd (omega arith))) (ap (λ ms. n ∷ ms) (put_at ns at d i v m x (rises_tail n.id (numbers ns) r) (omega arith) e f))
 
 -- a device in code, with another value in the place of an input
-pub device_put : (xs : List Device) (at d i : ℕ) (v : LocalValue) (old new : Device) → Rises (numbers (map device_of xs)) → at < length xs → get_or (numbers (map device_of xs)) at 0 ≡ d
+pub device_put : (xs : List Device) (at d i : ℕ) (v : LocalValue) (old new : Device) → Rises (numbers (map net_device_of xs)) → at < length xs → get_or (numbers (map net_device_of xs)) at 0 ≡ d
     → old ≡ get_or xs at old → new.id ≡ old.id → map local_of new.inputs.items ≡ slice_set (map local_of old.inputs.items) i v
-    → map device_of (set xs at new) ≡ put_input d i v (map device_of xs)
+    → map net_device_of (set xs at new) ≡ put_input d i v (map net_device_of xs)
 device_put xs at d i v old new r l e is same inputs =
-    let here : device_of old ≡ get_or (map device_of xs) at (device_of old) = ap device_of is ∙ sym (get_or-map device_of xs at old (device_of old) l) in
-    map-set device_of xs at new
-    ∙ put_at (map device_of xs) at d i v (device_of new) (device_of old) r (omega (arith, length-map (map device_of xs) (λ (n : NetDevice). n.id), length-map xs device_of)) e
+    let here : net_device_of old ≡ get_or (map net_device_of xs) at (net_device_of old) = ap net_device_of is ∙ sym (get_or-map net_device_of xs at old (net_device_of old) l) in
+    map-set net_device_of xs at new
+    ∙ put_at (map net_device_of xs) at d i v (net_device_of new) (net_device_of old) r (omega (arith, length-map (map net_device_of xs) (λ (n : NetDevice). n.id), length-map xs net_device_of)) e
     (ap (λ m. of_parts m (map local_of new.inputs.items)) same ∙ ap (of_parts old.id) inputs
     ∙ ap (λ (m : NetDevice). of_parts m.id (slice_set m.inputs i v)) here)
   where

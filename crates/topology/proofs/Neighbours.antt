@@ -7,7 +7,7 @@ use Rattle.fc_values.specs.Types.{Declarations}
 use Rattle.fc_values.specs.Fields.{Rises, is_in}
 use Rattle.topology.specs.Networks.{Edge, near_in, BeforeAll, LinksFit}
 use Rattle.topology.specs.Changes.{is_pair, has_pair}
-use Rattle.topology.specs.Nearby.{near_numbers}
+use Rattle.topology.specs.Nearby.{neighbour_numbers}
 use Rattle.fc_values.proofs.Rising.{strictly, min_or}
 use Rattle.fc_values.proofs.Booleans.{by_iff}
 use Rattle.fc_values.proofs.Numbers.{in_append}
@@ -52,15 +52,15 @@ above_second D ds l (m ∷ ms) o b f = by_test (nat_eq m.a l.b) (nat_eq m.b l.b)
     by_test false true s t ih = (strictly l.a m.a b.0.first (λ e. let k = b.0.second e in let y = eqb-true m.b l.b t in absurd (omega arith)), ih)
     by_test false false s t ih = ih
 
-rises_cons : (e : ℕ) (ns : List (ℕ × ℕ)) → AllAbove e ns → Rises (near_numbers ns) → Rises (e ∷ near_numbers ns)
+rises_cons : (e : ℕ) (ns : List (ℕ × ℕ)) → AllAbove e ns → Rises (neighbour_numbers ns) → Rises (e ∷ neighbour_numbers ns)
 rises_cons e [] a r = tt
 rises_cons e (n ∷ ns) a r = (a.0, r)
 
-pub near_rises : (D : Declarations) (ds : List ℕ) (d : ℕ) (ls : List Edge) → LinksFit D ds ls → Rises (near_numbers (near_in d ls))
+pub near_rises : (D : Declarations) (ds : List ℕ) (d : ℕ) (ls : List Edge) → LinksFit D ds ls → Rises (neighbour_numbers (near_in d ls))
 near_rises D ds d [] f = tt
 near_rises D ds d (l ∷ ls) f = by_test (nat_eq l.a d) (nat_eq l.b d) refl refl (near_rises D ds d ls f.2)
   where
-    by_test : (p q : Bool) → nat_eq l.a d ≡ p → nat_eq l.b d ≡ q → Rises (near_numbers (near_in d ls)) → Rises (near_numbers (if p then (l.b, l.weight) ∷ near_in d ls else (if q then (l.a, l.weight) ∷ near_in d ls else near_in d ls)))
+    by_test : (p q : Bool) → nat_eq l.a d ≡ p → nat_eq l.b d ≡ q → Rises (neighbour_numbers (near_in d ls)) → Rises (neighbour_numbers (if p then (l.b, l.weight) ∷ near_in d ls else (if q then (l.a, l.weight) ∷ near_in d ls else near_in d ls)))
     by_test true q s t ih = let e = eqb-true l.a d s in rises_cons l.b (near_in d ls) (subst (λ x. AllAbove l.b (near_in x ls)) e (above_first D ds l ls f.0.order f.1 f.2)) ih
     by_test false true s t ih = let e = eqb-true l.b d t in rises_cons l.a (near_in d ls) (subst (λ x. AllAbove l.a (near_in x ls)) e (above_second D ds l ls f.0.order f.1 f.2)) ih
     by_test false false s t ih = ih
@@ -152,7 +152,7 @@ module _ (D : Declarations) (ds : List ℕ) (d e w : ℕ) where
 
 -- ---- whether two devices are linked
 
-near_true : (a b : ℕ) (l : Edge) → is_in b (near_numbers (near_in a (l ∷ []))) ≡ true → ((l.a ≡ a) × (l.b ≡ b)) ⊎ ((l.b ≡ a) × (l.a ≡ b))
+near_true : (a b : ℕ) (l : Edge) → is_in b (neighbour_numbers (near_in a (l ∷ []))) ≡ true → ((l.a ≡ a) × (l.b ≡ b)) ⊎ ((l.b ≡ a) × (l.a ≡ b))
 near_true a b l t = by_tests (nat_eq l.a a) (nat_eq l.b a) refl refl t
   where
     found : (m : ℕ) → (nat_eq b m || false) ≡ true → m ≡ b
@@ -162,13 +162,13 @@ near_true a b l t = by_tests (nat_eq l.a a) (nat_eq l.b a) refl refl t
         by_test true e t = sym (eqb-true b m e)
         by_test false e t = absurd (cc)
 
-    by_tests : (p q : Bool) → nat_eq l.a a ≡ p → nat_eq l.b a ≡ q → is_in b (near_numbers (if p then (l.b, l.weight) ∷ [] else (if q then (l.a, l.weight) ∷ [] else []))) ≡ true
+    by_tests : (p q : Bool) → nat_eq l.a a ≡ p → nat_eq l.b a ≡ q → is_in b (neighbour_numbers (if p then (l.b, l.weight) ∷ [] else (if q then (l.a, l.weight) ∷ [] else []))) ≡ true
         → ((l.a ≡ a) × (l.b ≡ b)) ⊎ ((l.b ≡ a) × (l.a ≡ b))
     by_tests true q e f t = inl (eqb-true l.a a e, found l.b t)
     by_tests false true e f t = inr (eqb-true l.b a f, found l.a t)
     by_tests false false e f t = absurd (cc)
 
-true_near : (a b : ℕ) (l : Edge) → l.a < l.b → ((l.a ≡ a) × (l.b ≡ b)) ⊎ ((l.b ≡ a) × (l.a ≡ b)) → is_in b (near_numbers (near_in a (l ∷ []))) ≡ true
+true_near : (a b : ℕ) (l : Edge) → l.a < l.b → ((l.a ≡ a) × (l.b ≡ b)) ⊎ ((l.b ≡ a) × (l.a ≡ b)) → is_in b (neighbour_numbers (near_in a (l ∷ []))) ≡ true
 true_near a b l o (inl h) = rw (eq-eqb l.a a h.0, eq-eqb b l.b (sym h.1)) refl
 true_near a b l o (inr h) = let x = h.0 in rw (ne_eqb l.a a (λ e. absurd (omega arith)), eq-eqb l.b a h.0, eq-eqb b l.a (sym h.1)) refl
 
@@ -183,8 +183,8 @@ pair_true a b l t = by_tests (nat_eq l.a a) (nat_eq l.b b) refl refl t
 true_pair : (a b : ℕ) (l : Edge) → l.a ≡ a → l.b ≡ b → is_pair a b l ≡ true
 true_pair a b l e f = rw (eq-eqb l.a a e, eq-eqb l.b b f) refl
 
-pair_one : (a b : ℕ) (l : Edge) → l.a < l.b → is_in b (near_numbers (near_in a (l ∷ []))) ≡ is_pair (min a b) (max a b) l
-pair_one a b l o = by_iff (is_in b (near_numbers (near_in a (l ∷ [])))) (is_pair (min a b) (max a b) l)
+pair_one : (a b : ℕ) (l : Edge) → l.a < l.b → is_in b (neighbour_numbers (near_in a (l ∷ []))) ≡ is_pair (min a b) (max a b) l
+pair_one a b l o = by_iff (is_in b (neighbour_numbers (near_in a (l ∷ [])))) (is_pair (min a b) (max a b) l)
     (λ t. elim (near_true a b l t) [
       | inl h ↦ let x = h.0 in let y = h.1 in true_pair (min a b) (max a b) l (omega arith) (omega arith)
       | inr h ↦ let x = h.0 in let y = h.1 in true_pair (min a b) (max a b) l (omega arith) (omega arith)
@@ -194,11 +194,11 @@ pair_one a b l o = by_iff (is_in b (near_numbers (near_in a (l ∷ [])))) (is_pa
       | inr e ↦ true_near a b l o (inr (h.1 ∙ e.1, h.0 ∙ e.0))
     ])
 
-pub near_linked : (D : Declarations) (ds : List ℕ) (a b : ℕ) (ls : List Edge) → LinksFit D ds ls → is_in b (near_numbers (near_in a ls)) ≡ has_pair (min a b) (max a b) ls
+pub near_linked : (D : Declarations) (ds : List ℕ) (a b : ℕ) (ls : List Edge) → LinksFit D ds ls → is_in b (neighbour_numbers (near_in a ls)) ≡ has_pair (min a b) (max a b) ls
 near_linked D ds a b [] f = refl
 near_linked D ds a b (l ∷ ls) f =
-    ap (λ ns. is_in b (near_numbers ns)) (near_split a l ls)
+    ap (λ ns. is_in b (neighbour_numbers ns)) (near_split a l ls)
     ∙ ap (is_in b) (map-append (λ (n : ℕ × ℕ). n.0) (near_in a (l ∷ [])) (near_in a ls))
-    ∙ in_append b (near_numbers (near_in a (l ∷ []))) (near_numbers (near_in a ls))
-    ∙ ap (λ x. x || is_in b (near_numbers (near_in a ls))) (pair_one a b l f.0.order)
+    ∙ in_append b (neighbour_numbers (near_in a (l ∷ []))) (neighbour_numbers (near_in a ls))
+    ∙ ap (λ x. x || is_in b (neighbour_numbers (near_in a ls))) (pair_one a b l f.0.order)
     ∙ ap (λ x. is_pair (min a b) (max a b) l || x) (near_linked D ds a b ls f.2)

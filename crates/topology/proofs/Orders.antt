@@ -6,7 +6,7 @@ use Rattle.std.proofs.lemmas.Bool.{eqb-true, eqb-false, eq-eqb, ltb-true, ltb-fa
 use Rattle.fc_values.specs.Fields.{Rises, is_in}
 use Rattle.topology.specs.declared.types.Device.{Device}
 use Rattle.topology.specs.declared.types.Link.{Link}
-use Rattle.topology.specs.Networks.{NetDevice, Edge, device_of, edge_of, numbers, Before, BeforeAll, IsRisingLinks}
+use Rattle.topology.specs.Networks.{NetDevice, Edge, net_device_of, edge_of, numbers, Before, BeforeAll, IsRisingLinks}
 use Rattle.topology.specs.Changes.{is_before, is_pair, has_pair, drop_pair}
 use Rattle.topology.proofs.Replaced.{Later, Arranged, later_kept}
 use Rattle.topology.proofs.NearChanges.{before_ends}
@@ -15,23 +15,23 @@ use Rattle.fc_values.proofs.Rising.{rises_tail, rises_at}
 
 -- ---- devices
 
-pub number_get : (xs : List Device) (i : ℕ) (d : Device) → i < length xs → get_or (numbers (map device_of xs)) i 0 ≡ (get_or xs i d).id
+pub number_get : (xs : List Device) (i : ℕ) (d : Device) → i < length xs → get_or (numbers (map net_device_of xs)) i 0 ≡ (get_or xs i d).id
 number_get [] i d h = absurd (omega arith)
 number_get (x ∷ xs) zero d h = refl
 number_get (x ∷ xs) (suc i) d h = number_get xs i d (omega arith)
 
-pub numbers_length : (xs : List Device) → length (numbers (map device_of xs)) ≡ length xs
+pub numbers_length : (xs : List Device) → length (numbers (map net_device_of xs)) ≡ length xs
 numbers_length [] = refl
 numbers_length (x ∷ xs) = ap suc (numbers_length xs)
 
-pub devices_parted : (id : ℕ) (xs : List Device) → Rises (numbers (map device_of xs)) → IsPartitionedBy (λ (x : Device). nat_lt x.id id) xs
+pub devices_parted : (id : ℕ) (xs : List Device) → Rises (numbers (map net_device_of xs)) → IsPartitionedBy (λ (x : Device). nat_lt x.id id) xs
 devices_parted id xs r i j d h l t = by_test (nat_eq i j) refl
   where
     by_test : (q : Bool) → nat_eq i j ≡ q → nat_lt (get_or xs i d).id id ≡ true
     by_test true e = let k = eqb-true i j e in subst (λ m. nat_lt (get_or xs m d).id id ≡ true) (sym k) t
     by_test false e =
         let k = eqb-false i j e in
-        let u = rises_at (numbers (map device_of xs)) r i j (omega (arith, k)) (omega (arith, numbers_length xs)) in
+        let u = rises_at (numbers (map net_device_of xs)) r i j (omega (arith, k)) (omega (arith, numbers_length xs)) in
         let v = ltb-true (get_or xs j d).id id t in
         lt-ltb (get_or xs i d).id id (omega (arith, number_get xs i d (omega arith), number_get xs j d l))
 

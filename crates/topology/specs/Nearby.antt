@@ -11,8 +11,8 @@ use Rattle.fc_values.specs.Lists.{insert_after}
 abbrev pub near_each : List ℕ → List Edge → List (List (ℕ × ℕ))
 near_each ds ls = map (λ d. near_in d ls) ds
 
-abbrev pub near_numbers : List (ℕ × ℕ) → List ℕ
-near_numbers ns = map (λ n. n.0) ns
+abbrev pub neighbour_numbers : List (ℕ × ℕ) → List ℕ
+neighbour_numbers ns = map (λ n. n.0) ns
 
 -- neighbours without one of them
 abbrev pub drop_near : ℕ → List (ℕ × ℕ) → List (ℕ × ℕ)

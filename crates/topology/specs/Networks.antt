@@ -29,12 +29,13 @@ pub record Network : Type 0 where
 abbrev pub network_of : Declarations → List NetDevice → List Edge → Network
 network_of D ns ls = record { declared = D; devices = ns; links = ls }
 
-abbrev pub device_of : Device → NetDevice
-device_of d = record { id = d.id; inputs = map local_of d.inputs.items }
+abbrev pub net_device_of : Device → NetDevice
+net_device_of d = record { id = d.id; inputs = map local_of d.inputs.items }
 
 abbrev pub edge_of : Link → Edge
 edge_of l = record { a = l.a; b = l.b; weight = l.weight }
 
+-- the numbers of devices
 abbrev pub numbers : List NetDevice → List ℕ
 numbers ns = map (λ (n : NetDevice). n.id) ns
 
@@ -92,6 +93,7 @@ abbrev pub LinksFit : Declarations → List ℕ → List Edge → Type 0
 LinksFit D ds [] = Unit {0}
 LinksFit D ds (l ∷ ls) = LinkFits D ds l × BeforeAll l ls × LinksFit D ds ls
 
+-- what a network has to be: at least one device; no more devices, and no more links of each, than the limits
 pub record IsNetwork (n : Network) : Type 0 where
   pub some : 1 ≤ length n.devices
   pub few : length n.devices ≤ MOST_DEVICES

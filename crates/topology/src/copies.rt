@@ -2,7 +2,7 @@
 
 ghost use Rattle.std.specs.Prelude.{◌≡◌, ◌≤◌, ◌*◌, ◌++◌, length, map, vec_capacity, IfOk, OnOk, replicate, []};
 ghost use Rattle.fc_values.specs.Values.{local_of};
-ghost use Rattle.topology.specs.Networks.{device_of, edge_of, numbers};
+ghost use Rattle.topology.specs.Networks.{net_device_of, edge_of, numbers};
 ghost use Rattle.topology.specs.Nearby.{items_of, links_from, links_in};
 
 use crate::edits::make_room;
@@ -13,7 +13,7 @@ use std::alloc::Global;
 
 /// A copy of a device.
 pub fn copy_device(alloc: Global, device: &Device) -> Result<Device, Memory>
-    ensures { IfOk result (λ d. device_of d ≡ device_of device.now) }
+    ensures { IfOk result (λ d. net_device_of d ≡ net_device_of device.now) }
 {
     let inputs = copy_locals(alloc, &device.inputs)?;
     Ok(Device {
@@ -23,7 +23,7 @@ pub fn copy_device(alloc: Global, device: &Device) -> Result<Device, Memory>
 }
 
 pub(crate) fn copy_devices(alloc: Global, devices: &[Device]) -> Result<Vec<Device>, Memory>
-    ensures { IfOk result (λ v. map device_of v.items ≡ map device_of devices.now) }
+    ensures { IfOk result (λ v. map net_device_of v.items ≡ map net_device_of devices.now) }
 {
     let mut copies = Vec::new(alloc);
     for device in devices {
@@ -60,11 +60,11 @@ pub(crate) fn links_of(
     near: &[Nearby],
 ) -> Result<Vec<Link>, Memory>
     requires long { length near.now ≡ length devices.now }
-    requires few { length (links_in (numbers (map device_of devices.now)) (map items_of near.now))
+    requires few { length (links_in (numbers (map net_device_of devices.now)) (map items_of near.now))
         ≤ MOST_LINKS * length devices.now }
     requires most { length devices.now ≤ MOST_DEVICES }
     ensures links { IfOk result (λ v. map edge_of v.items
-        ≡ links_in (numbers (map device_of devices.now)) (map items_of near.now)) }
+        ≡ links_in (numbers (map net_device_of devices.now)) (map items_of near.now)) }
     ensures room { IfOk result (λ v. MOST_LINKS * length devices.now ≤ vec_capacity v) }
 {
     let room = MOST_LINKS * devices.len();

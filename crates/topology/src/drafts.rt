@@ -26,7 +26,7 @@ impl Model for Draft {
     ghost use Rattle.std.specs.Coded.{codes};
     ghost use Rattle.fc_values.specs.Codes.{local_value_code};
     ghost use Rattle.fc_values.specs.Types.{declarations_of};
-    ghost use Rattle.topology.specs.Networks.{Network as NetworkValue, device_of};
+    ghost use Rattle.topology.specs.Networks.{Network as NetworkValue, net_device_of};
     ghost use Rattle.topology.specs.Nearby.{IsDraft, drawn, items_of};
 
     ghost Value = { NetworkValue };
@@ -34,10 +34,10 @@ impl Model for Draft {
     ghost coded = { Prim.hlevel (codes, local_value_code) };
 
     ghost view = { λ n.
-        drawn (declarations_of n.declared) (map device_of n.devices.items) (map items_of n.near.items) };
+        drawn (declarations_of n.declared) (map net_device_of n.devices.items) (map items_of n.near.items) };
 
     ghost invariant = { λ n.
-        IsDraft (declarations_of n.declared) (map device_of n.devices.items) (map items_of n.near.items) };
+        IsDraft (declarations_of n.declared) (map net_device_of n.devices.items) (map items_of n.near.items) };
 }
 
 impl Draft {
@@ -46,15 +46,15 @@ impl Draft {
     ghost use Rattle.fc_values.specs.Types.{declarations_of};
     ghost use Rattle.fc_values.specs.Values.{local_of};
     ghost use Rattle.fc_values.specs.Fields.{Rises};
-    ghost use Rattle.topology.specs.Networks.{IsNetwork, device_of, near as near_of, lives, numbers, network_of};
+    ghost use Rattle.topology.specs.Networks.{IsNetwork, net_device_of, near as near_of, lives, numbers, network_of};
     ghost use Rattle.topology.specs.Changes.{are_linked, is_full, link_fault, linked, unlink_fault, unlinked};
     ghost use Rattle.topology.specs.Changes.{set_fault, with_input, join_fault, joined, leave_fault, left};
-    ghost use Rattle.topology.specs.Nearby.{AtPlace, AtEnds, near_numbers};
+    ghost use Rattle.topology.specs.Nearby.{AtPlace, AtEnds, neighbour_numbers};
 
     /// A draft of devices by rising numbers that make a network, without links.
     pub fn new(alloc: Global, declared: Declared, devices: Vec<Device>) -> Result<Self, Memory>
-        requires { IsNetwork (network_of (declarations_of declared) (map device_of devices.items) []) }
-        ensures { IfOk result (λ n. n ≡ network_of (declarations_of declared) (map device_of devices.items) []) }
+        requires { IsNetwork (network_of (declarations_of declared) (map net_device_of devices.items) []) }
+        ensures { IfOk result (λ n. n ≡ network_of (declarations_of declared) (map net_device_of devices.items) []) }
     {
         let near = no_nearby(alloc, devices.len())?;
         Ok(Draft {
@@ -82,7 +82,7 @@ impl Draft {
 
     /// The devices, by rising number.
     pub(crate) fn devices(&self) -> &[Device]
-        ensures value { map device_of result.now ≡ self.now.devices }
+        ensures value { map net_device_of result.now ≡ self.now.devices }
         ensures network { IsNetwork self.now }
     {
         &self.devices
@@ -102,7 +102,7 @@ impl Draft {
     /// The numbers of the devices that are linked to a device, rising, with the weights of the links.
     pub(crate) fn neighbours(&self, device: u32) -> &[(u32, u32)]
         ensures value { result.now ≡ near_of self.now device }
-        ensures rising { Rises (near_numbers result.now) }
+        ensures rising { Rises (neighbour_numbers result.now) }
         ensures none { lives self.now device ≡ false → result.now ≡ [] }
         ensures network { IsNetwork self.now }
     {
@@ -285,7 +285,7 @@ impl Draft {
 
     /// Why a device can't join.
     pub(crate) fn join_fault(&self, device: &Device) -> Option<NetFault>
-        ensures { result ≡ join_fault self.now (device_of device.now) }
+        ensures { result ≡ join_fault self.now (net_device_of device.now) }
     {
         if self.place(device.id).is_some() {
             return Some(NetFault::Twice);
@@ -302,8 +302,8 @@ impl Draft {
     /// Adds a device that can join.
     pub(crate) fn add(&mut self, device: Device) -> Result<(), Memory>
         requires small { device.id ≤ GREATEST_NUMBER }
-        requires fault { join_fault self.old (device_of device) ≡ None }
-        ensures ok { OnOk result (self.new ≡ joined self.old (device_of device)) }
+        requires fault { join_fault self.old (net_device_of device) ≡ None }
+        ensures ok { OnOk result (self.new ≡ joined self.old (net_device_of device)) }
         ensures err { OnErr result (self.new ≡ self.old) }
     {
         self.near.reserve(1)?;

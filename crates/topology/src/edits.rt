@@ -2,7 +2,7 @@
 
 ghost use Rattle.std.specs.Prelude.{◌≡◌, ◌<◌, ◌≤◌, true, length, map, vec_capacity, slice_set, OnOk};
 ghost use Rattle.fc_values.specs.Values.{local_of};
-ghost use Rattle.topology.specs.Networks.{device_of, edge_of, IsRisingLinks};
+ghost use Rattle.topology.specs.Networks.{net_device_of, edge_of, IsRisingLinks};
 ghost use Rattle.topology.specs.Changes.{is_pair, has_pair, put_edge, drop_pair, drop_links};
 ghost use Rattle.topology.specs.Nearby.{drop_near, items_of};
 

@@ -7,7 +7,7 @@ ghost use Rattle.fc_values.specs.Values.{LocalValue};
 ghost use Rattle.topology.specs.Networks.{NetDevice, Network, IsNetwork, Lives, lives, near, numbers};
 ghost use Rattle.topology.specs.Changes.{link_fault, linked, unlink_fault, unlinked, set_fault};
 ghost use Rattle.topology.specs.Changes.{with_input, join_fault, joined, leave_fault, left, in_order};
-ghost use Rattle.topology.specs.Nearby.{near_numbers};
+ghost use Rattle.topology.specs.Nearby.{neighbour_numbers};
 ghost use Rattle.topology.specs.declared.types.TheConstants.{GREATEST_NUMBER};
 
 /// A change that isn't refused leads from a network to a network.
@@ -24,7 +24,7 @@ pub fn changes_keep_networks()
 /// The neighbours of a device rise, and there are none where it isn't there. Each is another device that is there, by a
 /// link with a weight in the range of the metric, and has the device for a neighbour by the same weight.
 pub fn neighbours_are_mutual()
-    ensures rising { (n : Network) (d : ℕ) → IsNetwork n → Rises (near_numbers (near n d)) }
+    ensures rising { (n : Network) (d : ℕ) → IsNetwork n → Rises (neighbour_numbers (near n d)) }
     ensures none { (n : Network) (d : ℕ) → IsNetwork n → lives n d ≡ false → near n d ≡ [] }
     ensures there { (n : Network) (d e w : ℕ) → IsNetwork n → Contains (near n d) (e, w) → Lives n e }
     ensures other { (n : Network) (d e w : ℕ) → IsNetwork n → Contains (near n d) (e, w) → e ≢ d }

@@ -3,7 +3,7 @@
 ghost use Rattle.std.specs.Prelude.{◌≡◌, ◌<◌, length, nat_lt};
 ghost use Rattle.std.specs.List.{prefix_len};
 ghost use Rattle.fc_values.specs.Fields.{is_in};
-ghost use Rattle.topology.specs.Nearby.{near_numbers, drop_near, insert_near};
+ghost use Rattle.topology.specs.Nearby.{neighbour_numbers, drop_near, insert_near};
 
 use arrayvec::ArrayVec;
 use fc_values::MOST_LINKS;
@@ -24,7 +24,7 @@ pub(crate) fn copy_near(near: &Nearby) -> Nearby
 
 /// Whether a device is among the neighbours.
 pub(crate) fn is_near(near: &Nearby, device: u32) -> bool
-    ensures { result ≡ is_in device (near_numbers near.now.items) }
+    ensures { result ≡ is_in device (neighbour_numbers near.now.items) }
 {
     for one in near.as_slice() {
         if one.0 == device {

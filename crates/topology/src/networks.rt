@@ -40,20 +40,21 @@ impl Network {
     ghost use Rattle.fc_values.specs.Types.{declarations_of};
     ghost use Rattle.fc_values.specs.Values.{local_of};
     ghost use Rattle.fc_values.specs.Fields.{Rises};
-    ghost use Rattle.topology.specs.Networks.{NetDevice, IsNetwork, device_of, edge_of, near as near_of};
+    ghost use Rattle.topology.specs.Networks.{NetDevice, IsNetwork, net_device_of, edge_of, near as near_of};
     ghost use Rattle.topology.specs.Networks.{lives, numbers, network_of};
     ghost use Rattle.topology.specs.Changes.{HaveNumbers, HaveInputs, RefusesMake, make_fault, made, are_linked};
     ghost use Rattle.topology.specs.Changes.{link_fault, linked, unlink_fault, unlinked, set_fault, with_input};
     ghost use Rattle.topology.specs.Changes.{RefusesJoin, join_fault, joined, leave_fault, left};
-    ghost use Rattle.topology.specs.Nearby.{near_numbers};
+    ghost use Rattle.topology.specs.Nearby.{neighbour_numbers};
 
     /// The network of these declarations and devices, without links.
     pub fn new(alloc: Global, declared: Declared, devices: Vec<Device>) -> Result<Self, MakeFault>
-        requires numbers { HaveNumbers (map device_of devices.items) }
-        requires inputs { HaveInputs (length declared.inputs.items) (map device_of devices.items) }
-        ensures ok { IfOk result (λ n. n ≡ made (declarations_of declared) (map device_of devices.items)) }
-        ensures accepted { OnOk result (make_fault (declarations_of declared) (map device_of devices.items) ≡ None) }
-        ensures refused { IfErr result (RefusesMake (declarations_of declared) (map device_of devices.items)) }
+        requires numbers { HaveNumbers (map net_device_of devices.items) }
+        requires inputs { HaveInputs (length declared.inputs.items) (map net_device_of devices.items) }
+        ensures ok { IfOk result (λ n. n ≡ made (declarations_of declared) (map net_device_of devices.items)) }
+        ensures accepted { OnOk result
+            (make_fault (declarations_of declared) (map net_device_of devices.items) ≡ None) }
+        ensures refused { IfErr result (RefusesMake (declarations_of declared) (map net_device_of devices.items)) }
     {
         let count = devices.len();
         if count == 0 || count > MOST_DEVICES {
@@ -73,10 +74,10 @@ impl Network {
 
     // The network of devices that make one.
     fn build(alloc: Global, declared: Declared, devices: Vec<Device>) -> Result<Self, Memory>
-        requires numbers { HaveNumbers (map device_of devices.items) }
-        requires inputs { HaveInputs (length declared.inputs.items) (map device_of devices.items) }
-        requires fault { make_fault (declarations_of declared) (map device_of devices.items) ≡ None }
-        ensures { IfOk result (λ n. n ≡ made (declarations_of declared) (map device_of devices.items)) }
+        requires numbers { HaveNumbers (map net_device_of devices.items) }
+        requires inputs { HaveInputs (length declared.inputs.items) (map net_device_of devices.items) }
+        requires fault { make_fault (declarations_of declared) (map net_device_of devices.items) ≡ None }
+        ensures { IfOk result (λ n. n ≡ made (declarations_of declared) (map net_device_of devices.items)) }
     {
         let devices = in_order(alloc, devices)?;
         Self::from_rising(alloc, declared, devices, Vec::new(alloc))
@@ -90,9 +91,9 @@ impl Network {
         links: Vec<Link>,
     ) -> Result<Self, Memory>
         requires { IsNetwork
-            (network_of (declarations_of declared) (map device_of devices.items) (map edge_of links.items)) }
+            (network_of (declarations_of declared) (map net_device_of devices.items) (map edge_of links.items)) }
         ensures { IfOk result (λ n. n
-            ≡ network_of (declarations_of declared) (map device_of devices.items) (map edge_of links.items)) }
+            ≡ network_of (declarations_of declared) (map net_device_of devices.items) (map edge_of links.items)) }
     {
         let mut links = links;
         make_room(&mut links, MOST_LINKS * devices.len())?;
@@ -113,7 +114,7 @@ impl Network {
 
     /// The devices, by rising number.
     pub fn devices(&self) -> &[Device]
-        ensures value { map device_of result.now ≡ self.now.devices }
+        ensures value { map net_device_of result.now ≡ self.now.devices }
         ensures network { IsNetwork self.now }
     {
         self.draft.devices()
@@ -142,7 +143,7 @@ impl Network {
     /// The numbers of the devices that are linked to a device, rising, with the weights of the links.
     pub fn neighbours(&self, device: u32) -> &[(u32, u32)]
         ensures value { result.now ≡ near_of self.now device }
-        ensures rising { Rises (near_numbers result.now) }
+        ensures rising { Rises (neighbour_numbers result.now) }
         ensures none { lives self.now device ≡ false → result.now ≡ [] }
         ensures network { IsNetwork self.now }
     {
@@ -224,9 +225,9 @@ impl Network {
     /// Adds a device with its inputs and without links.
     pub fn join(&mut self, device: Device) -> Result<(), JoinFault>
         requires { device.id ≤ GREATEST_NUMBER }
-        ensures ok { OnOk result (self.new ≡ joined self.old (device_of device)) }
-        ensures accepted { OnOk result (join_fault self.old (device_of device) ≡ None) }
-        ensures refused { IfErr result (RefusesJoin self.old (device_of device)) }
+        ensures ok { OnOk result (self.new ≡ joined self.old (net_device_of device)) }
+        ensures accepted { OnOk result (join_fault self.old (net_device_of device) ≡ None) }
+        ensures refused { IfErr result (RefusesJoin self.old (net_device_of device)) }
         ensures err { OnErr result (self.new ≡ self.old) }
     {
         if let Some(fault) = self.draft.join_fault(&device) {

@@ -4,9 +4,9 @@ use Rattle.std.specs.Prelude.{bytes_eq, slice_get, slice_index, position}
 use Rattle.std.proofs.lemmas.List.Quantifiers.{position-Some}
 use Rattle.std.proofs.lemmas.List.{take_all, length-append}
 use Rattle.std.proofs.lemmas.Bool.{cases_lt}
-use Rattle.fc_syntax.specs.Terms.{Term as Expression, Declaration, LanguageIs, CeilingIs, InputIs, MetricIs, DefIs, MainIs}
+use Rattle.fc_syntax.specs.Terms.{SourceTerm, Declaration, LanguageIs, CeilingIs, InputIs, MetricIs, DefIs, MainIs}
 use Rattle.fc_syntax.specs.Printable.{IsPrintable, BeginWithCeiling, EndWithMain}
-use Rattle.fc_types.specs.Before.{Before, nothing, and_all}
+use Rattle.fc_types.specs.Before.{Earlier, nothing_declared, with_declarations}
 use Rattle.unfold.specs.Found.{HasMain}
 use Rattle.unfold.specs.Nodes.{Nodes}
 use Rattle.unfold.specs.Unfolding.{main_expression, main_term}
@@ -149,13 +149,13 @@ first_get (first_here h) = refl
 first_get (first_later h k) = first_get k
 
 -- what is kept for a function is its size
-pub capped_found : (B : Before) (ns : List ℕ) (x : List ℕ) (j : ℕ) (g : Function) → AreCapped B ns → FirstAt x B.functions j g → j < length ns → slice_index ns j ≡ min 1000000 (size_of x (counted B (length ns)))
+pub capped_found : (B : Earlier) (ns : List ℕ) (x : List ℕ) (j : ℕ) (g : Function) → AreCapped B ns → FirstAt x B.functions j g → j < length ns → slice_index ns j ≡ min 1000000 (size_of x (counted B (length ns)))
 capped_found B ns x j g are first l =
     let e = first_get first in
     let s = size_found first [] (length ns) tt l in
     are j l ∙ ap (λ (o : Option Function). min 1000000 (body_count B j o)) e ∙ ap (min 1000000) (sym s)
 
-pub capped_none : (B : Before) (ns : List ℕ) (x : List ℕ) → NoneAmong x B.functions (length ns) → 1 ≡ min 1000000 (size_of x (counted B (length ns)))
+pub capped_none : (B : Earlier) (ns : List ℕ) (x : List ℕ) → NoneAmong x B.functions (length ns) → 1 ≡ min 1000000 (size_of x (counted B (length ns)))
 capped_none B ns x none = let s = size_none x [] B.functions (length ns) tt none in rw s refl
 
 index_front : (ns : List ℕ) (n j : ℕ) → j < length ns → slice_index (ns ++ n ∷ []) j ≡ slice_index ns j
@@ -169,7 +169,7 @@ index_last (m ∷ ns) n zero e = absurd (omega arith)
 index_last (m ∷ ns) n (suc j) e = index_last ns n j (omega arith)
 
 -- one count more
-pub capped_more : (B : Before) (ns : List ℕ) (n : ℕ) (g : Function) → AreCapped B ns → slice_get B.functions (length ns) ≡ Some g → n ≡ min 1000000 (count (counted B (length ns)) g.body) → AreCapped B (ns ++ n ∷ [])
+pub capped_more : (B : Earlier) (ns : List ℕ) (n : ℕ) (g : Function) → AreCapped B ns → slice_get B.functions (length ns) ≡ Some g → n ≡ min 1000000 (count (counted B (length ns)) g.body) → AreCapped B (ns ++ n ∷ [])
 capped_more B ns n g are e q j l = by_place (cases_lt j (length ns))
   where
     by_place : (j < length ns) ⊎ (length ns ≤ j) → slice_index (ns ++ n ∷ []) j ≡ min 1000000 (body_count B j (slice_get B.functions j))
@@ -213,10 +213,10 @@ has_main (DefIs f ps r b ∷ ds) h = absurd h
 has_main (MainIs e ∷ ds) h = absurd h
 
 -- the count of `main` is the number of nodes
-pub counted_main : (ds : List Declaration) (B : Before) (n : ℕ) (e : Expression) → B ≡ and_all nothing ds → n ≡ length B.functions → e ≡ main_expression ds → count (counted B n) e ≡ length (Nodes ds)
+pub counted_main : (ds : List Declaration) (B : Earlier) (n : ℕ) (e : SourceTerm) → B ≡ with_declarations nothing_declared ds → n ≡ length B.functions → e ≡ main_expression ds → count (counted B n) e ≡ length (Nodes ds)
 counted_main ds B n e b l m =
     let t : take n B.functions ≡ B.functions = take_all n B.functions (omega arith) in
-    ap (λ (fs : List Function). count (counts [] fs) e) t ∙ ap (λ (A : Before). count (counts [] A.functions) e) b ∙ ap (count (counts [] (and_all nothing ds).functions)) m
+    ap (λ (fs : List Function). count (counts [] fs) e) t ∙ ap (λ (A : Earlier). count (counts [] A.functions) e) b ∙ ap (count (counts [] (with_declarations nothing_declared ds).functions)) m
     ∙ sym (listed_long (main_term ds) 0 ∙ main_size ds)
 
 -- one more of each of two lists

@@ -3,24 +3,24 @@ use Rattle.std.proofs.Common.{◌≡◌, refl, ap, ℕ, suc, ◌+◌, arith, Boo
 use Rattle.std.specs.Prelude.{bytes_eq, slice_get}
 use Rattle.std.proofs.lemmas.List.{length-append}
 use Rattle.fc_values.specs.Types.{Input}
-use Rattle.fc_syntax.specs.Terms.{Term as Expression, IntTerm, TruthTerm, VarTerm, UidTerm, NbrLinkTerm, SenseTerm, ApplyTerm, NbrTerm, RepTerm, ShareTerm, IfTerm, LetTerm, CallTerm, Terms as Expressions, NoTerms, MoreTerms, Parameter, Declaration}
-use Rattle.fc_types.specs.Before.{Function, nothing, and_all}
-use Rattle.fc_nodes.specs.Terms.{Term, Terms, Plain, Apply, Nbr, Evolve, If, Let, NoMore, More, type_of, size, sizes, ByShare, View}
-use Rattle.unfold.specs.Unfolding.{Binder, Scope, binder_of, Meaning, meaning_of, variable_term, numbered_term, input_number, sense_by, params_of, body_of, unfolded, unfolded_call, unfolded_all, with_argument, behind_first, bind, variable_type, meaning, meanings, main_expression, main_term}
+use Rattle.fc_syntax.specs.Terms.{SourceTerm, IntTerm, TruthTerm, VarTerm, UidTerm, NbrLinkTerm, SenseTerm, ApplyTerm, NbrTerm, RepTerm, ShareTerm, IfTerm, LetTerm, CallTerm, SourceTerms, NoTerms, MoreTerms, Parameter, Declaration}
+use Rattle.fc_types.specs.Before.{Function, nothing_declared, with_declarations}
+use Rattle.fc_nodes.specs.Terms.{Term, Terms, Plain, Apply, Nbr, Evolve, If, Let, NoMore, More, term_type, size, sizes, ByShare, View}
+use Rattle.unfold.specs.Unfolding.{Binder, NamesInScope, binder_of, Meaning, meaning_of, variable_term, numbered_term, input_number, sense_by, params_of, body_of, unfolded, unfolded_call, unfolded_all, with_argument, behind_first, with_binder, variable_type, meaning, meanings, main_expression, main_term}
 use Rattle.unfold.specs.Nodes.{listed, all_listed}
 use Rattle.unfold.specs.Counting.{Count, size_of, count, count_all, count_arguments, counts, main_count}
 
 -- counts of what functions are: each body has its size at each place and in each scope
 pub record IsCount (m : Meaning) (c : Count) : Type 0 where
   pub name : m.name ≡ c.name
-  pub size : (given : Scope) (p : ℕ) → size (m.body given p) ≡ c.size
+  pub size : (given : NamesInScope) (p : ℕ) → size (m.body given p) ≡ c.size
 
 abbrev pub AreCounts : List Meaning → List Count → Type 0
 AreCounts [] [] = Unit {0}
 AreCounts (m ∷ ms) (c ∷ cs) = IsCount m c × AreCounts ms cs
 AreCounts _ _ = ⊥
 
-named_size : (x : List ℕ) (ms : List Meaning) (cs : List Count) → AreCounts ms cs → (given : Scope) (p : ℕ) → size (body_of (meaning_of x ms) given p) ≡ size_of x cs
+named_size : (x : List ℕ) (ms : List Meaning) (cs : List Count) → AreCounts ms cs → (given : NamesInScope) (p : ℕ) → size (body_of (meaning_of x ms) given p) ≡ size_of x cs
 named_size x [] [] h given p = refl
 named_size x (m ∷ ms) (c ∷ cs) h given p = let e = h.0.name in go (bytes_eq x m.name) (bytes_eq x c.name) (ap (bytes_eq x) e) (meaning_of x ms) (named_size x ms cs h.1 given p)
   where
@@ -46,7 +46,7 @@ sense_one is (Some n) = go (slice_get is n)
 
 module _ (is : List Input) (ms : List Meaning) (cs : List Count) (are : AreCounts ms cs) where
   mutual
-    pub unfolded_size : (e : Expression) (scope : Scope) (p : ℕ) → size (unfolded is ms scope p e) ≡ count cs e
+    pub unfolded_size : (e : SourceTerm) (scope : NamesInScope) (p : ℕ) → size (unfolded is ms scope p e) ≡ count cs e
     unfolded_size (IntTerm n) scope p = refl
     unfolded_size (TruthTerm b) scope p = refl
     unfolded_size (VarTerm x) scope p = variable_one (binder_of x scope)
@@ -58,12 +58,12 @@ module _ (is : List Input) (ms : List Meaning) (cs : List Count) (are : AreCount
     unfolded_size (RepTerm e x b) scope p =
         let a = unfolded is ms scope (suc p) e in
         let h = unfolded_size e scope (suc p) in
-        let i = unfolded_size b (bind x p (type_of a) scope) (suc p + size a) in
+        let i = unfolded_size b (with_binder x p (term_type a) scope) (suc p + size a) in
         omega (arith, h, i)
     unfolded_size (ShareTerm e x b) scope p =
         let a = unfolded is ms scope (suc p) e in
         let h = unfolded_size e scope (suc p) in
-        let i = unfolded_size b (bind x p (variable_type ByShare (type_of a)) scope) (suc p + size a) in
+        let i = unfolded_size b (with_binder x p (variable_type ByShare (term_type a)) scope) (suc p + size a) in
         omega (arith, h, i)
     unfolded_size (IfTerm c a b) scope p =
         let k = unfolded is ms scope (suc p) c in
@@ -75,21 +75,21 @@ module _ (is : List Input) (ms : List Meaning) (cs : List Count) (are : AreCount
     unfolded_size (LetTerm x e b) scope p =
         let a = unfolded is ms scope (suc p) e in
         let h = unfolded_size e scope (suc p) in
-        let i = unfolded_size b (bind x p (type_of a) scope) (suc p + size a) in
+        let i = unfolded_size b (with_binder x p (term_type a) scope) (suc p + size a) in
         omega (arith, h, i)
     unfolded_size (CallTerm f es) scope p =
         unfolded_call_size es scope (params_of (meaning_of f ms)) [] p (body_of (meaning_of f ms)) (size_of f cs) (λ given q. named_size f ms cs are given q)
 
-    pub unfolded_call_size : (es : Expressions) (scope : Scope) (params : List Parameter) (given : Scope) (p : ℕ) (body : Scope → ℕ → Term) (n : ℕ) →
-        ((inner : Scope) (q : ℕ) → size (body inner q) ≡ n) → size (unfolded_call is ms scope params given p body es) ≡ count_arguments cs es + n
+    pub unfolded_call_size : (es : SourceTerms) (scope : NamesInScope) (params : List Parameter) (given : NamesInScope) (p : ℕ) (body : NamesInScope → ℕ → Term) (n : ℕ) →
+        ((inner : NamesInScope) (q : ℕ) → size (body inner q) ≡ n) → size (unfolded_call is ms scope params given p body es) ≡ count_arguments cs es + n
     unfolded_call_size NoTerms scope params given p body n h = let e = h given p in omega (arith, e)
     unfolded_call_size (MoreTerms e es) scope params given p body n h =
         let a = unfolded is ms scope (suc p) e in
         let i = unfolded_size e scope (suc p) in
-        let j = unfolded_call_size es scope (behind_first params) (with_argument params p (type_of a) given) (suc p + size a) body n h in
+        let j = unfolded_call_size es scope (behind_first params) (with_argument params p (term_type a) given) (suc p + size a) body n h in
         omega (arith, i, j)
 
-    pub unfolded_all_size : (es : Expressions) (scope : Scope) (p : ℕ) → sizes (unfolded_all is ms scope p es) ≡ count_all cs es
+    pub unfolded_all_size : (es : SourceTerms) (scope : NamesInScope) (p : ℕ) → sizes (unfolded_all is ms scope p es) ≡ count_all cs es
     unfolded_all_size NoTerms scope p = refl
     unfolded_all_size (MoreTerms e es) scope p =
         let a = unfolded is ms scope p e in
@@ -112,8 +112,8 @@ counts_are is ms cs (f ∷ fs) h =
 
 pub main_size : (ds : List Declaration) → size (main_term ds) ≡ main_count ds
 main_size ds =
-    let is = (and_all nothing ds).inputs in
-    let fs = (and_all nothing ds).functions in
+    let is = (with_declarations nothing_declared ds).inputs in
+    let fs = (with_declarations nothing_declared ds).functions in
     unfolded_size is (meanings is [] fs) (counts [] fs) (counts_are is [] [] fs tt) (main_expression ds) [] 0
 
 two_long : (xs ys : List View) (m n : ℕ) → length xs ≡ m → length ys ≡ n → length (xs ++ ys) ≡ m + n

@@ -5,24 +5,24 @@ use Rattle.std.proofs.lemmas.List.{map-append}
 use Rattle.fc_values.specs.declared.builtins.Builtin.{Builtin}
 use Rattle.fc_values.specs.Types.{ValueType, TypeLocal, TypeField, Input, input_type, Declarations}
 use Rattle.fc_values.specs.BuiltinTypes.{HasRule, inner}
-use Rattle.fc_syntax.specs.Terms.{Term as Expression, Terms as Expressions, Parameter}
-use Rattle.fc_types.specs.Before.{Function, Before, input_named, function_named, Scope as NamedTypes}
+use Rattle.fc_syntax.specs.Terms.{SourceTerm, SourceTerms, Parameter}
+use Rattle.fc_types.specs.Before.{Function, Earlier, input_named, function_named, Scope as NamedTypes}
 use Rattle.fc_types.specs.Typing.{HasType as Has, int_type, truth_type, variable_type as variable_has, uid_type, nbr_link_type, sense_type, builtin_type, nbr_type, rep_type, share_type, if_type, let_type, call_type, HaveTypes as HaveAll, no_types, more_types}
 use Rattle.fc_types.specs.Faults.{shared_type}
 use Rattle.fc_types.specs.Judging.{judge_builtin}
 use Rattle.fc_types.proofs.Rules.{rule_judged}
-use Rattle.fc_nodes.specs.Terms.{Term, Terms, type_of, size}
+use Rattle.fc_nodes.specs.Terms.{Term, Terms, term_type, size}
 use Rattle.fc_nodes.specs.Typing.{Scope as Places, HasType, HaveTypes, types_of}
-use Rattle.unfold.specs.Unfolding.{Scope, bind, Meaning, meaning_of, input_number, sense_by, type_given, apply_term, params_of, body_of, unfolded, unfolded_call, unfolded_all}
+use Rattle.unfold.specs.Unfolding.{NamesInScope, with_binder, Meaning, meaning_of, input_number, sense_by, type_given, apply_term, params_of, body_of, unfolded, unfolded_call, unfolded_all}
 use Rattle.unfold.proofs.Stands.{forget, forget_one, Stand, stand_later, stand_under, stand_bound, stand_given, variable_typed}
 
 -- a term has this type, where it stands
 abbrev pub Typed : Declarations → Places → ℕ → Term → ValueType → Type 0
-Typed D N p u t = HasType D N p u × (type_of u ≡ t)
+Typed D N p u t = HasType D N p u × (term_type u ≡ t)
 
 -- a function's body has its result's type wherever its parameters stand
-abbrev pub GivesResult : Declarations → Function → (Scope → ℕ → Term) → Type 0
-GivesResult D f body = (given : Scope) (N : Places) (p : ℕ) → forget given ≡ f.params → Stand given N p → Typed D N p (body given p) f.result
+abbrev pub GivesResult : Declarations → Function → (NamesInScope → ℕ → Term) → Type 0
+GivesResult D f body = (given : NamesInScope) (N : Places) (p : ℕ) → forget given ≡ f.params → Stand given N p → Typed D N p (body given p) f.result
 
 pub record IsGood (D : Declarations) (f : Function) (m : Meaning) : Type 0 where
   pub name : f.name ≡ m.name
@@ -35,7 +35,7 @@ AreGood D (f ∷ fs) (m ∷ ms) = IsGood D f m × AreGood D fs ms
 AreGood D _ _ = ⊥
 
 -- what holds of the declarations before, against those of the whole program
-pub record MeaningsHold (D : Declarations) (ms : List Meaning) (B : Before) : Type 0 where
+pub record MeaningsHold (D : Declarations) (ms : List Meaning) (B : Earlier) : Type 0 where
   pub ceiling : B.ceiling ≡ D.ceiling
   pub inputs : (x : List ℕ) (i : Input) → input_named x B.inputs ≡ Some i → (n : ℕ) × (input_number x D.inputs ≡ Some n) × (slice_get D.inputs n ≡ Some i)
   pub functions : AreGood D B.functions ms
@@ -68,10 +68,10 @@ apply_typed D N p b xs ts t h e r =
     let g : type_given (judge_builtin b (types_of xs)) ≡ t = ap type_given j in
     ((rw g r', h), g)
 
-bound_scope : (x : List ℕ) (p : ℕ) (s t : ValueType) (S : Scope) (scope : NamedTypes) → s ≡ t → forget S ≡ scope → forget (bind x p s S) ≡ record { name = x; type = t } ∷ scope
+bound_scope : (x : List ℕ) (p : ℕ) (s t : ValueType) (S : NamesInScope) (scope : NamedTypes) → s ≡ t → forget S ≡ scope → forget (with_binder x p s S) ≡ record { name = x; type = t } ∷ scope
 bound_scope x p s t S scope e q = rw (e, q) refl
 
-bound_stand : (x : List ℕ) (p : ℕ) (s t : ValueType) (S : Scope) (N : Places) (q : ℕ) → s ≡ t → suc p ≤ q → Stand S N p → Stand (bind x p s S) ((p, t) ∷ N) q
+bound_stand : (x : List ℕ) (p : ℕ) (s t : ValueType) (S : NamesInScope) (N : Places) (q : ℕ) → s ≡ t → suc p ≤ q → Stand S N p → Stand (with_binder x p s S) ((p, t) ∷ N) q
 bound_stand x p s t S N q e l h = rw e (stand_bound x S N p q t l h)
 
 append_none : (xs : List Parameter) → xs ++ [] ≡ xs
@@ -84,7 +84,7 @@ head_same s t ss ts e = cc
 tail_same : (s t : ValueType) (ss ts : List ValueType) → s ∷ ss ≡ t ∷ ts → ss ≡ ts
 tail_same s t ss ts e = cc
 
-given_scope : (x : Parameter) (p : ℕ) (s : ValueType) (given : Scope) (params all : List Parameter) → s ≡ x.type → forget given ++ x ∷ params ≡ all →
+given_scope : (x : Parameter) (p : ℕ) (s : ValueType) (given : NamesInScope) (params all : List Parameter) → s ≡ x.type → forget given ++ x ∷ params ≡ all →
     forget (given ++ record { name = x.name; place = p; type = s } ∷ []) ++ params ≡ all
 given_scope x p s given params all e f =
     let m : forget (given ++ record { name = x.name; place = p; type = s } ∷ []) ≡ forget given ++ x ∷ [] =
@@ -93,7 +93,7 @@ given_scope x p s given params all e f =
 
 module _ (D : Declarations) (ms : List Meaning) where
   mutual
-    pub typed : {B : Before} {scope : NamedTypes} {e : Expression} {t : ValueType} → Has B scope e t → MeaningsHold D ms B → (S : Scope) (N : Places) (p : ℕ) → forget S ≡ scope → Stand S N p →
+    pub typed : {B : Earlier} {scope : NamedTypes} {e : SourceTerm} {t : ValueType} → Has B scope e t → MeaningsHold D ms B → (S : NamesInScope) (N : Places) (p : ℕ) → forget S ≡ scope → Stand S N p →
         Typed D N p (unfolded D.inputs ms S p e) t
     typed (int_type h) k S N p q s = let c = k.ceiling in ((refl, omega (arith, h, c)), refl)
     typed truth_type k S N p q s = (refl, refl)
@@ -110,13 +110,13 @@ module _ (D : Declarations) (ms : List Meaning) where
     typed (rep_type {e = e} {x = x} {b = b} {t = t} h h' f) k S N p q s =
         let a = typed h k S N (suc p) q (stand_later S N p (suc p) (omega arith) s) in
         let u = unfolded D.inputs ms S (suc p) e in
-        let c = typed h' k (bind x p (type_of u) S) ((p, TypeLocal t) ∷ N) (suc p + size u) (bound_scope x p (type_of u) (TypeLocal t) S _ a.1 q) (bound_stand x p (type_of u) (TypeLocal t) S N (suc p + size u) a.1 (omega arith) s) in
+        let c = typed h' k (with_binder x p (term_type u) S) ((p, TypeLocal t) ∷ N) (suc p + size u) (bound_scope x p (term_type u) (TypeLocal t) S _ a.1 q) (bound_stand x p (term_type u) (TypeLocal t) S N (suc p + size u) a.1 (omega arith) s) in
         ((t, a.1, a.1, c.1, a.0, c.0), a.1)
     typed (share_type {e = e} {x = x} {b = b} {t = t} h h' f) k S N p q s =
         let a = typed h k S N (suc p) q (stand_later S N p (suc p) (omega arith) s) in
         let u = unfolded D.inputs ms S (suc p) e in
         let v = ap shared_type a.1 in
-        let c = typed h' k (bind x p (shared_type (type_of u)) S) ((p, TypeField t) ∷ N) (suc p + size u) (bound_scope x p (shared_type (type_of u)) (TypeField t) S _ v q) (bound_stand x p (shared_type (type_of u)) (TypeField t) S N (suc p + size u) v (omega arith) s) in
+        let c = typed h' k (with_binder x p (shared_type (term_type u)) S) ((p, TypeField t) ∷ N) (suc p + size u) (bound_scope x p (shared_type (term_type u)) (TypeField t) S _ v q) (bound_stand x p (shared_type (term_type u)) (TypeField t) S N (suc p + size u) v (omega arith) s) in
         ((t, a.1, a.1, c.1, a.0, c.0), a.1)
     typed (if_type {c = c} {a = a} {b = b} {t = t} h h' h'') k S N p q s =
         let u = unfolded D.inputs ms S (suc p) c in
@@ -128,28 +128,28 @@ module _ (D : Declarations) (ms : List Meaning) where
     typed (let_type {x = x} {a = e} {b = b} {s = r} h h' f) k S N p q s =
         let a = typed h k S N (suc p) q (stand_later S N p (suc p) (omega arith) s) in
         let u = unfolded D.inputs ms S (suc p) e in
-        let c = typed h' k (bind x p (type_of u) S) ((p, type_of u) ∷ N) (suc p + size u) (bound_scope x p (type_of u) r S _ a.1 q) (stand_bound x S N p (suc p + size u) (type_of u) (omega arith) s) in
+        let c = typed h' k (with_binder x p (term_type u) S) ((p, term_type u) ∷ N) (suc p + size u) (bound_scope x p (term_type u) r S _ a.1 q) (stand_bound x S N p (suc p + size u) (term_type u) (omega arith) s) in
         ((refl, a.0, c.0), c.1)
     typed (call_type {B = B} {f = f} {es = es} {g = g} e h) k S N p q s =
         let n = named_good D f B.functions ms g k.functions e in
         typed_call h k S N p q s (params_of (meaning_of f ms)) [] (body_of (meaning_of f ms)) g.params g.result (ap (map (λ (x : Parameter). x.type)) n.0) (sym n.0) tt n.1
 
-    pub typed_call : {B : Before} {scope : NamedTypes} {es : Expressions} {ts : List ValueType} → HaveAll B scope es ts → MeaningsHold D ms B → (S : Scope) (N : Places) (p : ℕ) → forget S ≡ scope → Stand S N p →
-        (params : List Parameter) (given : Scope) (body : Scope → ℕ → Term) (all : List Parameter) (r : ValueType) → ts ≡ map (λ (x : Parameter). x.type) params → forget given ++ params ≡ all → Stand given N p →
-        ((inner : Scope) (M : Places) (i : ℕ) → forget inner ≡ all → Stand inner M i → Typed D M i (body inner i) r) → Typed D N p (unfolded_call D.inputs ms S params given p body es) r
+    pub typed_call : {B : Earlier} {scope : NamedTypes} {es : SourceTerms} {ts : List ValueType} → HaveAll B scope es ts → MeaningsHold D ms B → (S : NamesInScope) (N : Places) (p : ℕ) → forget S ≡ scope → Stand S N p →
+        (params : List Parameter) (given : NamesInScope) (body : NamesInScope → ℕ → Term) (all : List Parameter) (r : ValueType) → ts ≡ map (λ (x : Parameter). x.type) params → forget given ++ params ≡ all → Stand given N p →
+        ((inner : NamesInScope) (M : Places) (i : ℕ) → forget inner ≡ all → Stand inner M i → Typed D M i (body inner i) r) → Typed D N p (unfolded_call D.inputs ms S params given p body es) r
     typed_call no_types k S N p q s [] given body all r e f g h = h given N p (sym (append_none (forget given)) ∙ f) g
     typed_call no_types k S N p q s (x ∷ params) given body all r e f g h = absurd cc
     typed_call (more_types h h') k S N p q s [] given body all r e f g b = absurd cc
     typed_call (more_types {e = w} {t = t} {ts = ts} h h') k S N p q s (x ∷ params) given body all r e f g b =
         let a = typed h k S N (suc p) q (stand_later S N p (suc p) (omega arith) s) in
         let u = unfolded D.inputs ms S (suc p) w in
-        let same : type_of u ≡ x.type = a.1 ∙ head_same t x.type ts _ e in
-        let c = typed_call h' k S ((p, type_of u) ∷ N) (suc p + size u) q (stand_under S N p (suc p + size u) (type_of u) (omega arith) s) params
-        (given ++ record { name = x.name; place = p; type = type_of u } ∷ []) body all r (tail_same t x.type ts _ e)
-        (given_scope x p (type_of u) given params all same f) (stand_given x.name given N p (suc p + size u) (type_of u) (omega arith) g) b in
+        let same : term_type u ≡ x.type = a.1 ∙ head_same t x.type ts _ e in
+        let c = typed_call h' k S ((p, term_type u) ∷ N) (suc p + size u) q (stand_under S N p (suc p + size u) (term_type u) (omega arith) s) params
+        (given ++ record { name = x.name; place = p; type = term_type u } ∷ []) body all r (tail_same t x.type ts _ e)
+        (given_scope x p (term_type u) given params all same f) (stand_given x.name given N p (suc p + size u) (term_type u) (omega arith) g) b in
         ((refl, a.0, c.0), c.1)
 
-    pub typed_all : {B : Before} {scope : NamedTypes} {es : Expressions} {ts : List ValueType} → HaveAll B scope es ts → MeaningsHold D ms B → (S : Scope) (N : Places) (p : ℕ) → forget S ≡ scope → Stand S N p →
+    pub typed_all : {B : Earlier} {scope : NamedTypes} {es : SourceTerms} {ts : List ValueType} → HaveAll B scope es ts → MeaningsHold D ms B → (S : NamesInScope) (N : Places) (p : ℕ) → forget S ≡ scope → Stand S N p →
         HaveTypes D N p (unfolded_all D.inputs ms S p es) × (types_of (unfolded_all D.inputs ms S p es) ≡ ts)
     typed_all no_types k S N p q s = (tt, refl)
     typed_all (more_types {e = e} h h') k S N p q s =

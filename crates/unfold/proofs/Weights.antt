@@ -1,14 +1,14 @@
 -- A bound on the work that is left: what the bodies of the functions that are seen weigh.
 use Rattle.std.proofs.Common.{ℕ, zero, suc, ◌+◌, ◌<◌, ◌≤◌, arith, List, [], ◌∷◌, take}
 use Rattle.fc_syntax.specs.Pieces.{weight}
-use Rattle.fc_types.specs.Before.{Function, Before}
+use Rattle.fc_types.specs.Before.{Function, Earlier}
 use Rattle.unfold.specs.Found.{FirstAt, first_here, first_later}
 
 abbrev pub bodies : List Function → ℕ
 bodies [] = 0
 bodies (f ∷ fs) = weight f.body + bodies fs
 
-abbrev pub seen : Before → ℕ → ℕ
+abbrev pub seen : Earlier → ℕ → ℕ
 seen B n = bodies (take n B.functions)
 
 pub first_lighter : {x : List ℕ} {fs : List Function} {j : ℕ} {g : Function} → FirstAt x fs j g → (v : ℕ) → j < v → bodies (take j fs) + weight g.body ≤ bodies (take v fs)

@@ -4,8 +4,8 @@ use Rattle.std.proofs.lemmas.List.{length-map, take_all}
 use Rattle.fc_values.specs.declared.types.Ty.{Ty}
 use Rattle.fc_values.specs.Types.{Declarations}
 use Rattle.fc_syntax.specs.Printable.{IsPrintable}
-use Rattle.fc_syntax.specs.Terms.{Term as Expression, Declaration}
-use Rattle.fc_types.specs.Before.{Function, Before, nothing, and_all, declared_by}
+use Rattle.fc_syntax.specs.Terms.{SourceTerm, Declaration}
+use Rattle.fc_types.specs.Before.{Function, Earlier, nothing_declared, with_declarations, declared_by}
 use Rattle.fc_types.specs.Typing.{IsTyped}
 use Rattle.fc_nodes.specs.declared.nodes.Node.{Node}
 use Rattle.fc_nodes.specs.Terms.{view_of, term_at}
@@ -42,17 +42,17 @@ pub whole_unfolding : (ds : List Declaration) (D : Declarations) (ns : List Node
     unfolding_of (record { declared = D; nodes = ns }) ≡ record { declared = declared_by ds; main = main_term ds }
 whole_unfolding ds D ns d e = let r = read_back ns (main_term ds) e in rw (d, r) refl
 
-pub few_known : (ds : List Declaration) (B : Before) → B ≡ and_all nothing ds → length ds < 2 ^ 32 → length B.inputs < 2 ^ 32
-few_known ds B b few = let f = few_inputs ds nothing in rw b (omega (arith, f, few))
+pub few_known : (ds : List Declaration) (B : Earlier) → B ≡ with_declarations nothing_declared ds → length ds < 2 ^ 32 → length B.inputs < 2 ^ 32
+few_known ds B b few = let f = few_inputs ds nothing_declared in rw b (omega (arith, f, few))
 
-pub main_written : (ds : List Declaration) (B : Before) (n : ℕ) (e : Expression) (N0 N1 : List Node) (t : Ty) → B ≡ and_all nothing ds → n ≡ length B.functions → e ≡ main_expression ds → N0 ≡ [] →
+pub main_written : (ds : List Declaration) (B : Earlier) (n : ℕ) (e : SourceTerm) (N0 N1 : List Node) (t : Ty) → B ≡ with_declarations nothing_declared ds → n ≡ length B.functions → e ≡ main_expression ds → N0 ≡ [] →
     IsWritten N0 N1 t (unfolded_in B n [] (length N0) e) → map view_of N1 ≡ Nodes ds
 main_written ds B n e N0 N1 t b l m z w =
     let all : take n B.functions ≡ B.functions = take_all n B.functions (omega arith) in
     w.nodes ∙ ap (λ (ns : List Node). map view_of ns ++ listed (length ns) (unfolded_in B n [] (length ns) e)) z
     ∙ ap (λ (fs : List Function). listed 0 (unfolded B.inputs (meanings B.inputs [] fs) [] 0 e)) all
-    ∙ ap (λ (A : Before). listed 0 (unfolded A.inputs (meanings A.inputs [] A.functions) [] 0 e)) b
-    ∙ ap (λ (x : Expression). listed 0 (unfolded (and_all nothing ds).inputs (meanings (and_all nothing ds).inputs [] (and_all nothing ds).functions) [] 0 x)) m
+    ∙ ap (λ (A : Earlier). listed 0 (unfolded A.inputs (meanings A.inputs [] A.functions) [] 0 e)) b
+    ∙ ap (λ (x : SourceTerm). listed 0 (unfolded (with_declarations nothing_declared ds).inputs (meanings (with_declarations nothing_declared ds).inputs [] (with_declarations nothing_declared ds).functions) [] 0 x)) m
 
 -- nodes in code that are those of the program
 pub programs_unfold : ProgramsUnfold

@@ -6,15 +6,15 @@ use Rattle.fc_values.specs.declared.builtins.Builtin.{Builtin}
 use Rattle.fc_values.specs.declared.types.Ty.{Ty}
 use Rattle.fc_values.specs.Types.{ValueType, TypeField, type_of}
 use Rattle.fc_values.specs.BuiltinTypes.{inner}
-use Rattle.fc_syntax.specs.Terms.{Term as Expression, Terms as Expressions, NoTerms, MoreTerms, ApplyTerm, NbrTerm, IfTerm, LetTerm}
-use Rattle.fc_types.specs.Before.{Before}
+use Rattle.fc_syntax.specs.Terms.{SourceTerm, SourceTerms, NoTerms, MoreTerms, ApplyTerm, NbrTerm, IfTerm, LetTerm}
+use Rattle.fc_types.specs.Before.{Earlier}
 use Rattle.fc_types.specs.Judging.{judge_builtin}
 use Rattle.fc_nodes.specs.declared.nodes.Node.{Node}
-use Rattle.fc_nodes.specs.Terms.{Term, Evolution, size, View, Has, Sort, OfApply, OfNbr, OfEvolve, OfIf, OfLet, places, view_of, type_of as term_type}
+use Rattle.fc_nodes.specs.Terms.{Term, Evolution, size, View, Has, Sort, OfApply, OfNbr, OfEvolve, OfIf, OfLet, places, view_of, term_type}
 use Rattle.fc_nodes.specs.Typing.{types_of}
 use Rattle.unfold.specs.Nodes.{listed, all_listed}
 use Rattle.unfold.specs.Counting.{count}
-use Rattle.unfold.specs.Unfolding.{Scope, bind, variable_type, type_given, evolve_term}
+use Rattle.unfold.specs.Unfolding.{NamesInScope, with_binder, variable_type, type_given, evolve_term}
 use Rattle.unfold.specs.Views.{counted}
 use Rattle.unfold.specs.Writing.{IsWritten, first_meanings, unfolded_in, all_unfolded_in}
 use Rattle.unfold.proofs.Sizes.{unfolded_size, counts_are}
@@ -87,20 +87,20 @@ module _ (N0 N1 : List Node) (v : View) (s : Sort) (place : ℕ) (p : place ≡ 
       rw k' at g
 
 -- a term has the counted size
-pub size_is : (B : Before) (n : ℕ) (S : Scope) (p : ℕ) (e : Expression) → size (unfolded_in B n S p e) ≡ count (counted B n) e
+pub size_is : (B : Earlier) (n : ℕ) (S : NamesInScope) (p : ℕ) (e : SourceTerm) → size (unfolded_in B n S p e) ≡ count (counted B n) e
 size_is B n S p e = unfolded_size B.inputs (first_meanings B n) (counted B n) (counts_are B.inputs [] [] (take n B.functions) tt) e S p
 
-module _ (B : Before) (n : ℕ) (S : Scope) (N0 N1 : List Node) (v : View) (place : ℕ) (p : place ≡ length N0) (more : length N1 ≡ length N0 + 1) (begun : map view_of N1 ≡ map view_of N0 ++ v ∷ []) where
+module _ (B : Earlier) (n : ℕ) (S : NamesInScope) (N0 N1 : List Node) (v : View) (place : ℕ) (p : place ≡ length N0) (more : length N1 ≡ length N0 + 1) (begun : map view_of N1 ≡ map view_of N0 ++ v ∷ []) where
   after : length N1 ≡ suc (length N0)
   after = omega (arith, more)
 
-  at_first : (e : Expression) (N2 : List Node) (start : Ty) → IsWritten N1 N2 start (unfolded_in B n S (length N1) e) → type_of start ≡ term_type (unfolded_in B n S (suc (length N0)) e)
+  at_first : (e : SourceTerm) (N2 : List Node) (start : Ty) → IsWritten N1 N2 start (unfolded_in B n S (length N1) e) → type_of start ≡ term_type (unfolded_in B n S (suc (length N0)) e)
   at_first e N2 start w = let t = w.type in rw after at t
 
-  longer : (T : Scope) (q : ℕ) (e : Expression) (m k : ℕ) → m ≡ k + count (counted B n) e → m ≡ k + size (unfolded_in B n T q e)
+  longer : (T : NamesInScope) (q : ℕ) (e : SourceTerm) (m k : ℕ) → m ≡ k + count (counted B n) e → m ≡ k + size (unfolded_in B n T q e)
   longer T q e m k l = let s = size_is B n T q e in omega (arith, s, l)
 
-  pub nbr_written : (e : Expression) (N2 N3 : List Node) (inside t ct : Ty) (kids : List ℕ) → IsWritten N1 N2 inside (unfolded_in B n S (length N1) e) →
+  pub nbr_written : (e : SourceTerm) (N2 N3 : List Node) (inside t ct : Ty) (kids : List ℕ) → IsWritten N1 N2 inside (unfolded_in B n S (length N1) e) →
       type_of t ≡ TypeField (inner (type_of inside)) → type_of ct ≡ type_of t → kids ≡ (place + 1) ∷ [] →
       map view_of N3 ≡ slice_set (map view_of N2) place (Has OfNbr (type_of ct) kids) → IsWritten N0 N3 t (unfolded_in B n S (length N0) (NbrTerm e))
   nbr_written e N2 N3 inside t ct kids w f c k g =
@@ -110,9 +110,9 @@ module _ (B : Before) (n : ℕ) (S : Scope) (N0 N1 : List Node) (v : View) (plac
       let c' = c ∙ f' in
       record { nodes = rw c' at g'; type = f' }
 
-  pub evolve_written : (w : Evolution) (x : List ℕ) (e b : Expression) (N2 N3 N4 : List Node) (start end ct : Ty) (bt : ValueType) (second : ℕ) (kids : List ℕ) →
+  pub evolve_written : (w : Evolution) (x : List ℕ) (e b : SourceTerm) (N2 N3 N4 : List Node) (start end ct : Ty) (bt : ValueType) (second : ℕ) (kids : List ℕ) →
       length N2 ≡ length N1 + count (counted B n) e → IsWritten N1 N2 start (unfolded_in B n S (length N1) e) →
-      bt ≡ variable_type w (type_of start) → IsWritten N2 N3 end (unfolded_in B n (bind x place bt S) (length N2) b) →
+      bt ≡ variable_type w (type_of start) → IsWritten N2 N3 end (unfolded_in B n (with_binder x place bt S) (length N2) b) →
       second ≡ length N2 → type_of ct ≡ type_of start → kids ≡ (place + 1) ∷ second ∷ [] →
       map view_of N4 ≡ slice_set (map view_of N3) place (Has (OfEvolve w) (type_of ct) kids) →
       IsWritten N0 N4 start (evolve_term w x S (length N0) (unfolded_in B n S (suc (length N0)) e) (λ inner q. unfolded_in B n inner q b))
@@ -120,37 +120,37 @@ module _ (B : Before) (n : ℕ) (S : Scope) (N0 N1 : List Node) (v : View) (plac
       let t = at_first e N2 start h in
       let a = unfolded_in B n S (suc (length N0)) e in
       let bt' : bt ≡ variable_type w (type_of start) = v' in
-      let bound : bind x place bt S ≡ bind x (length N0) (variable_type w (term_type a)) S =
-      ap (λ (m : ℕ). bind x m bt S) p ∙ ap (λ (u : ValueType). bind x (length N0) u S) (v' ∙ ap (variable_type w) t) in
-      let i' : map view_of N3 ≡ map view_of N2 ++ listed (length N2) (unfolded_in B n (bind x (length N0) (variable_type w (term_type a)) S) (length N2) b) =
-      i.nodes ∙ ap (λ (T : Scope). map view_of N2 ++ listed (length N2) (unfolded_in B n T (length N2) b)) bound in
-      let g' = two_kids N0 N1 v (OfEvolve w) place p more begun (λ m. unfolded_in B n S m e) (λ m. unfolded_in B n (bind x (length N0) (variable_type w (term_type a)) S) m b) N2 N3 N4
+      let bound : with_binder x place bt S ≡ with_binder x (length N0) (variable_type w (term_type a)) S =
+      ap (λ (m : ℕ). with_binder x m bt S) p ∙ ap (λ (u : ValueType). with_binder x (length N0) u S) (v' ∙ ap (variable_type w) t) in
+      let i' : map view_of N3 ≡ map view_of N2 ++ listed (length N2) (unfolded_in B n (with_binder x (length N0) (variable_type w (term_type a)) S) (length N2) b) =
+      i.nodes ∙ ap (λ (T : NamesInScope). map view_of N2 ++ listed (length N2) (unfolded_in B n T (length N2) b)) bound in
+      let g' = two_kids N0 N1 v (OfEvolve w) place p more begun (λ m. unfolded_in B n S m e) (λ m. unfolded_in B n (with_binder x (length N0) (variable_type w (term_type a)) S) m b) N2 N3 N4
       (type_of ct) kids second (longer S (length N1) e (length N2) (length N1) l) h.nodes i' q k g in
       let c' = c ∙ t in
       record { nodes = rw c' at g'; type = t }
 
-  pub let_written : (x : List ℕ) (e b : Expression) (N2 N3 N4 : List Node) (start end ct : Ty) (second : ℕ) (kids : List ℕ) →
+  pub let_written : (x : List ℕ) (e b : SourceTerm) (N2 N3 N4 : List Node) (start end ct : Ty) (second : ℕ) (kids : List ℕ) →
       length N2 ≡ length N1 + count (counted B n) e → IsWritten N1 N2 start (unfolded_in B n S (length N1) e) →
-      IsWritten N2 N3 end (unfolded_in B n (bind x place (type_of start) S) (length N2) b) →
+      IsWritten N2 N3 end (unfolded_in B n (with_binder x place (type_of start) S) (length N2) b) →
       second ≡ length N2 → type_of ct ≡ type_of end → kids ≡ (place + 1) ∷ second ∷ [] →
       map view_of N4 ≡ slice_set (map view_of N3) place (Has OfLet (type_of ct) kids) →
       IsWritten N0 N4 end (unfolded_in B n S (length N0) (LetTerm x e b))
   let_written x e b N2 N3 N4 start end ct second kids l h i q c k g =
       let t = at_first e N2 start h in
       let a = unfolded_in B n S (suc (length N0)) e in
-      let T : Scope = bind x (length N0) (term_type a) S in
-      let bound : bind x place (type_of start) S ≡ T = ap (λ (m : ℕ). bind x m (type_of start) S) p ∙ ap (λ (u : ValueType). bind x (length N0) u S) t in
+      let T : NamesInScope = with_binder x (length N0) (term_type a) S in
+      let bound : with_binder x place (type_of start) S ≡ T = ap (λ (m : ℕ). with_binder x m (type_of start) S) p ∙ ap (λ (u : ValueType). with_binder x (length N0) u S) t in
       let i' : map view_of N3 ≡ map view_of N2 ++ listed (length N2) (unfolded_in B n T (length N2) b) =
-      i.nodes ∙ ap (λ (R : Scope). map view_of N2 ++ listed (length N2) (unfolded_in B n R (length N2) b)) bound in
+      i.nodes ∙ ap (λ (R : NamesInScope). map view_of N2 ++ listed (length N2) (unfolded_in B n R (length N2) b)) bound in
       let l' = longer S (length N1) e (length N2) (length N1) l in
       let there : length N2 ≡ suc (length N0) + size a = rw after at l' in
       let j : type_of end ≡ term_type (unfolded_in B n T (suc (length N0) + size a) b) =
-      i.type ∙ ap (λ (R : Scope). term_type (unfolded_in B n R (length N2) b)) bound ∙ ap (λ (m : ℕ). term_type (unfolded_in B n T m b)) there in
+      i.type ∙ ap (λ (R : NamesInScope). term_type (unfolded_in B n R (length N2) b)) bound ∙ ap (λ (m : ℕ). term_type (unfolded_in B n T m b)) there in
       let g' = two_kids N0 N1 v OfLet place p more begun (λ m. unfolded_in B n S m e) (λ m. unfolded_in B n T m b) N2 N3 N4 (type_of ct) kids second l' h.nodes i' q k g in
       let c' = c ∙ j in
       record { nodes = rw c' at g'; type = j }
 
-  pub if_written : (e a b : Expression) (N2 N3 N4 N5 : List Node) (condition then other ct : Ty) (second third : ℕ) (kids : List ℕ) →
+  pub if_written : (e a b : SourceTerm) (N2 N3 N4 N5 : List Node) (condition then other ct : Ty) (second third : ℕ) (kids : List ℕ) →
       length N2 ≡ length N1 + count (counted B n) e → IsWritten N1 N2 condition (unfolded_in B n S (length N1) e) →
       length N3 ≡ length N2 + count (counted B n) a → IsWritten N2 N3 then (unfolded_in B n S (length N2) a) →
       IsWritten N3 N4 other (unfolded_in B n S (length N3) b) →
@@ -168,7 +168,7 @@ module _ (B : Before) (n : ℕ) (S : Scope) (N0 N1 : List Node) (v : View) (plac
       let c' = c ∙ t in
       record { nodes = rw c' at g'; type = t }
 
-  pub apply_written : (b : Builtin) (es : Expressions) (N2 N3 : List Node) (t ct : Ty) (types : List ValueType) (kids : List ℕ) →
+  pub apply_written : (b : Builtin) (es : SourceTerms) (N2 N3 : List Node) (t ct : Ty) (types : List ValueType) (kids : List ℕ) →
       map view_of N2 ≡ map view_of N1 ++ all_listed (length N1) (all_unfolded_in B n S (length N1) es) →
       kids ≡ places (length N1) (all_unfolded_in B n S (length N1) es) → types ≡ types_of (all_unfolded_in B n S (length N1) es) →
       type_of t ≡ type_given (judge_builtin b types) → type_of ct ≡ type_of t → map view_of N3 ≡ slice_set (map view_of N2) place (Has (OfApply b) (type_of ct) kids) →
@@ -184,7 +184,7 @@ module _ (B : Before) (n : ℕ) (S : Scope) (N0 N1 : List Node) (v : View) (plac
       let g' = set_before (map view_of N0) (map view_of N1) (map view_of N2) (map view_of N3) v (Has (OfApply b) (type_of ct) kids) place (all_listed (suc (length N0)) us) here' begun e' g in
       record { nodes = rw (c', k') at g'; type = f' }
 
-  pub one_written : (b : Builtin) (e : Expression) (N2 N3 : List Node) (kid t : Ty) → IsWritten N1 N2 kid (unfolded_in B n S (length N1) e) → type_of t ≡ type_given (judge_builtin b (type_of kid ∷ [])) →
+  pub one_written : (b : Builtin) (e : SourceTerm) (N2 N3 : List Node) (kid t : Ty) → IsWritten N1 N2 kid (unfolded_in B n S (length N1) e) → type_of t ≡ type_given (judge_builtin b (type_of kid ∷ [])) →
       map view_of N3 ≡ slice_set (map view_of N2) place (Has (OfApply b) (type_of t) ((place + 1) ∷ [])) → IsWritten N0 N3 t (unfolded_in B n S (length N0) (ApplyTerm b (MoreTerms e NoTerms)))
   one_written b e N2 N3 kid t w f g =
       let row = w.nodes ∙ ap (λ (l : List View). map view_of N1 ++ l) (sym (append-nil (listed (length N1) (unfolded_in B n S (length N1) e)))) in
@@ -192,21 +192,21 @@ module _ (B : Before) (n : ℕ) (S : Scope) (N0 N1 : List Node) (v : View) (plac
       apply_written b (MoreTerms e NoTerms) N2 N3 t t (type_of kid ∷ []) ((place + 1) ∷ []) row (ap (λ (m : ℕ). m ∷ []) first) (ap (λ (u : ValueType). u ∷ []) w.type) f refl g
 
   -- the same of a node that is ended, if memory suffices
-  pub one_ended : {E : Type 0} → (b : Builtin) (e : Expression) (N2 N3 : List Node) (kid : Ty) (r : Result Ty E) → IsWritten N1 N2 kid (unfolded_in B n S (length N1) e) →
+  pub one_ended : {E : Type 0} → (b : Builtin) (e : SourceTerm) (N2 N3 : List Node) (kid : Ty) (r : Result Ty E) → IsWritten N1 N2 kid (unfolded_in B n S (length N1) e) →
       IfOk r (λ t. type_of t ≡ type_given (judge_builtin b (type_of kid ∷ []))) → IfOk r (λ t. map view_of N3 ≡ slice_set (map view_of N2) place (Has (OfApply b) (type_of t) ((place + 1) ∷ []))) →
       IfOk r (λ t. IsWritten N0 N3 t (unfolded_in B n S (length N0) (ApplyTerm b (MoreTerms e NoTerms))))
   one_ended b e N2 N3 kid (Ok t) w f g = one_written b e N2 N3 kid t w f g
   one_ended b e N2 N3 kid (Err m) w f g = tt
 
-  pub nbr_ended : {E : Type 0} → (e : Expression) (N2 N3 : List Node) (kid : Ty) (r : Result Ty E) → IsWritten N1 N2 kid (unfolded_in B n S (length N1) e) →
+  pub nbr_ended : {E : Type 0} → (e : SourceTerm) (N2 N3 : List Node) (kid : Ty) (r : Result Ty E) → IsWritten N1 N2 kid (unfolded_in B n S (length N1) e) →
       IfOk r (λ t. type_of t ≡ TypeField (inner (type_of kid))) → IfOk r (λ t. map view_of N3 ≡ slice_set (map view_of N2) place (Has OfNbr (type_of t) ((place + 1) ∷ []))) →
       IfOk r (λ t. IsWritten N0 N3 t (unfolded_in B n S (length N0) (NbrTerm e)))
   nbr_ended e N2 N3 kid (Ok t) w f g = nbr_written e N2 N3 kid t t ((place + 1) ∷ []) w f refl refl g
   nbr_ended e N2 N3 kid (Err m) w f g = tt
 
-  pub let_ended : {E : Type 0} → (x : List ℕ) (e b : Expression) (N2 N3 N4 : List Node) (start end : Ty) (second : ℕ) (r : Result Ty E) →
+  pub let_ended : {E : Type 0} → (x : List ℕ) (e b : SourceTerm) (N2 N3 N4 : List Node) (start end : Ty) (second : ℕ) (r : Result Ty E) →
       length N2 ≡ length N1 + count (counted B n) e → IsWritten N1 N2 start (unfolded_in B n S (length N1) e) →
-      IsWritten N2 N3 end (unfolded_in B n (bind x place (type_of start) S) (length N2) b) → second ≡ length N2 →
+      IsWritten N2 N3 end (unfolded_in B n (with_binder x place (type_of start) S) (length N2) b) → second ≡ length N2 →
       IfOk r (λ t. type_of t ≡ type_of end) → IfOk r (λ t. map view_of N4 ≡ slice_set (map view_of N3) place (Has OfLet (type_of t) ((place + 1) ∷ second ∷ []))) →
       IfOk r (λ t. IsWritten N0 N4 t (unfolded_in B n S (length N0) (LetTerm x e b)))
   let_ended x e b N2 N3 N4 start end second (Ok t) l h i q c g =

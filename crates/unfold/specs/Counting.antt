@@ -1,7 +1,7 @@
 -- How many nodes an unfolding has, without making it.
 use Rattle.std.specs.Prelude.{ℕ, suc, ◌+◌, if◌then◌else◌, List, [], ◌∷◌, ◌++◌, bytes_eq}
-use Rattle.fc_syntax.specs.Terms.{Term as Expression, IntTerm, TruthTerm, VarTerm, UidTerm, NbrLinkTerm, SenseTerm, ApplyTerm, NbrTerm, RepTerm, ShareTerm, IfTerm, LetTerm, CallTerm, Terms as Expressions, NoTerms, MoreTerms, Declaration}
-use Rattle.fc_types.specs.Before.{Function, nothing, and_all}
+use Rattle.fc_syntax.specs.Terms.{SourceTerm, IntTerm, TruthTerm, VarTerm, UidTerm, NbrLinkTerm, SenseTerm, ApplyTerm, NbrTerm, RepTerm, ShareTerm, IfTerm, LetTerm, CallTerm, SourceTerms, NoTerms, MoreTerms, Declaration}
+use Rattle.fc_types.specs.Before.{Function, nothing_declared, with_declarations}
 use Rattle.unfold.specs.Unfolding.{main_expression}
 
 -- a function's name, and the number of nodes of its body
@@ -14,7 +14,7 @@ size_of x [] = 1
 size_of x (c ∷ cs) = if bytes_eq x c.name then c.size else size_of x cs
 
 abbrev mutual
-  pub count : List Count → Expression → ℕ
+  pub count : List Count → SourceTerm → ℕ
   count cs (IntTerm n) = 1
   count cs (TruthTerm b) = 1
   count cs (VarTerm x) = 1
@@ -29,12 +29,12 @@ abbrev mutual
   count cs (LetTerm x a b) = suc (count cs a + count cs b)
   count cs (CallTerm f es) = count_arguments cs es + size_of f cs
 
-  pub count_all : List Count → Expressions → ℕ
+  pub count_all : List Count → SourceTerms → ℕ
   count_all cs NoTerms = 0
   count_all cs (MoreTerms e es) = count cs e + count_all cs es
 
   -- each argument with its `let`
-  pub count_arguments : List Count → Expressions → ℕ
+  pub count_arguments : List Count → SourceTerms → ℕ
   count_arguments cs NoTerms = 0
   count_arguments cs (MoreTerms e es) = suc (count cs e + count_arguments cs es)
 
@@ -43,4 +43,4 @@ counts cs [] = cs
 counts cs (f ∷ fs) = counts (cs ++ record { name = f.name; size = count cs f.body } ∷ []) fs
 
 abbrev pub main_count : List Declaration → ℕ
-main_count ds = count (counts [] (and_all nothing ds).functions) (main_expression ds)
+main_count ds = count (counts [] (with_declarations nothing_declared ds).functions) (main_expression ds)

@@ -4,11 +4,11 @@ use Rattle.fc_values.specs.declared.builtins.Builtin.{Builtin}
 use Rattle.fc_values.specs.Types.{IntType, BoolType, ValueType, TypeLocal, TypeField, Input, input_type}
 use Rattle.fc_values.specs.Values.{IntValue, BoolValue}
 use Rattle.fc_values.specs.BuiltinTypes.{inner}
-use Rattle.fc_syntax.specs.Terms.{Term as Expression, IntTerm, TruthTerm, VarTerm, UidTerm, NbrLinkTerm, SenseTerm, ApplyTerm, NbrTerm, RepTerm, ShareTerm, IfTerm, LetTerm, CallTerm, Terms as Expressions, NoTerms, MoreTerms, Parameter, Declaration, LanguageIs, CeilingIs, InputIs, MetricIs, DefIs, MainIs}
-use Rattle.fc_types.specs.Before.{Function, nothing, and_all}
+use Rattle.fc_syntax.specs.Terms.{SourceTerm, IntTerm, TruthTerm, VarTerm, UidTerm, NbrLinkTerm, SenseTerm, ApplyTerm, NbrTerm, RepTerm, ShareTerm, IfTerm, LetTerm, CallTerm, SourceTerms, NoTerms, MoreTerms, Parameter, Declaration, LanguageIs, CeilingIs, InputIs, MetricIs, DefIs, MainIs}
+use Rattle.fc_types.specs.Before.{Function, nothing_declared, with_declarations}
 use Rattle.fc_types.specs.Faults.{shared_type}
-use Rattle.fc_types.specs.Judging.{Judgement, TypeIs, FaultIs, judge_builtin}
-use Rattle.fc_nodes.specs.Terms.{Literal, Variable, Sense, Uid, NbrLink, Evolution, ByRep, ByShare, Term, Terms, Plain, Apply, Nbr, Evolve, If, Let, NoMore, More, type_of, size}
+use Rattle.fc_types.specs.Judging.{JudgedType, TypeFound, FaultFound, judge_builtin}
+use Rattle.fc_nodes.specs.Terms.{Literal, Variable, Sense, Uid, NbrLink, Evolution, ByRep, ByShare, Term, Terms, Plain, Apply, Nbr, Evolve, If, Let, NoMore, More, term_type, size}
 use Rattle.fc_nodes.specs.Typing.{types_of}
 
 -- a name in scope: the place of the node that binds it, and its type
@@ -18,10 +18,10 @@ pub record Binder : Type 0 where
   pub type : ValueType
 
 -- the names in scope, the nearest first
-abbrev pub Scope : Type 0
-Scope = List Binder
+abbrev pub NamesInScope : Type 0
+NamesInScope = List Binder
 
-abbrev pub binder_of : List ℕ → Scope → Option Binder
+abbrev pub binder_of : List ℕ → NamesInScope → Option Binder
 binder_of x [] = None
 binder_of x (b ∷ scope) = if bytes_eq x b.name then Some b else binder_of x scope
 
@@ -29,7 +29,7 @@ binder_of x (b ∷ scope) = if bytes_eq x b.name then Some b else binder_of x sc
 pub record Meaning : Type 0 where
   pub name : List ℕ
   pub params : List Parameter
-  pub body : Scope → ℕ → Term
+  pub body : NamesInScope → ℕ → Term
 
 abbrev pub meaning_of : List ℕ → List Meaning → Option Meaning
 meaning_of x [] = None
@@ -57,44 +57,44 @@ sense_by is None = untyped
 sense_by is (Some n) = numbered_term n (slice_get is n)
 
 -- the type that a builtin gives
-abbrev pub type_given : Judgement → ValueType
-type_given (TypeIs t) = t
-type_given (FaultIs k) = TypeLocal IntType
+abbrev pub type_given : JudgedType → ValueType
+type_given (TypeFound t) = t
+type_given (FaultFound k) = TypeLocal IntType
 
 abbrev pub apply_term : Builtin → Terms → Term
 apply_term b xs = Apply (type_given (judge_builtin b (types_of xs))) b xs
 
 abbrev pub nbr_term : Term → Term
-nbr_term a = Nbr (TypeField (inner (type_of a))) a
+nbr_term a = Nbr (TypeField (inner (term_type a))) a
 
 -- the type of the variable, from that of the first expression
 abbrev pub variable_type : Evolution → ValueType → ValueType
 variable_type ByRep t = t
 variable_type ByShare t = shared_type t
 
-abbrev pub bind : List ℕ → ℕ → ValueType → Scope → Scope
-bind x p t scope = record { name = x; place = p; type = t } ∷ scope
+abbrev pub with_binder : List ℕ → ℕ → ValueType → NamesInScope → NamesInScope
+with_binder x p t scope = record { name = x; place = p; type = t } ∷ scope
 
 -- Nodes at a place from what their kids are. The first kid stands behind the node, and each further one behind the last
 -- node of the one before.
-abbrev pub evolve_term : Evolution → List ℕ → Scope → ℕ → Term → (Scope → ℕ → Term) → Term
+abbrev pub evolve_term : Evolution → List ℕ → NamesInScope → ℕ → Term → (NamesInScope → ℕ → Term) → Term
 evolve_term v x scope p a body =
-    Evolve (type_of a) v a (body (bind x p (variable_type v (type_of a)) scope) (suc p + size a))
+    Evolve (term_type a) v a (body (with_binder x p (variable_type v (term_type a)) scope) (suc p + size a))
 
 abbrev pub branches : ℕ → Term → Term → (ℕ → Term) → Term
-branches p c a other = If (type_of a) c a (other (suc p + size c + size a))
+branches p c a other = If (term_type a) c a (other (suc p + size c + size a))
 
 abbrev pub if_term : ℕ → Term → (ℕ → Term) → (ℕ → Term) → Term
 if_term p c then_by else_by = branches p c (then_by (suc p + size c)) else_by
 
-abbrev pub around : Term → Term → Term
-around a b = Let (type_of b) a b
+abbrev pub let_around : Term → Term → Term
+let_around a b = Let (term_type b) a b
 
-abbrev pub let_term : List ℕ → Scope → ℕ → Term → (Scope → ℕ → Term) → Term
-let_term x scope p a body = around a (body (bind x p (type_of a) scope) (suc p + size a))
+abbrev pub let_term : List ℕ → NamesInScope → ℕ → Term → (NamesInScope → ℕ → Term) → Term
+let_term x scope p a body = let_around a (body (with_binder x p (term_type a) scope) (suc p + size a))
 
 -- an argument of a call: a `let` that binds the next parameter
-abbrev pub with_argument : List Parameter → ℕ → ValueType → Scope → Scope
+abbrev pub with_argument : List Parameter → ℕ → ValueType → NamesInScope → NamesInScope
 with_argument [] p t given = given
 with_argument (x ∷ params) p t given = given ++ record { name = x.name; place = p; type = t } ∷ []
 
@@ -102,14 +102,14 @@ abbrev pub behind_first : List Parameter → List Parameter
 behind_first [] = []
 behind_first (x ∷ params) = params
 
-abbrev pub argument_term : List Parameter → Scope → ℕ → Term → (Scope → ℕ → Term) → Term
-argument_term params given p a next = around a (next (with_argument params p (type_of a) given) (suc p + size a))
+abbrev pub argument_term : List Parameter → NamesInScope → ℕ → Term → (NamesInScope → ℕ → Term) → Term
+argument_term params given p a next = let_around a (next (with_argument params p (term_type a) given) (suc p + size a))
 
 abbrev pub params_of : Option Meaning → List Parameter
 params_of None = []
 params_of (Some m) = m.params
 
-abbrev pub body_of : Option Meaning → Scope → ℕ → Term
+abbrev pub body_of : Option Meaning → NamesInScope → ℕ → Term
 body_of None given p = untyped
 body_of (Some m) given p = m.body given p
 
@@ -119,7 +119,7 @@ more_terms p a next = More a (next (p + size a))
 -- An expression that stands at a place, in a scope, with the inputs of the program and what the functions before are.
 -- An argument of a call is read in the scope of the call, and the body in that of the parameters alone.
 abbrev mutual
-  pub unfolded : List Input → List Meaning → Scope → ℕ → Expression → Term
+  pub unfolded : List Input → List Meaning → NamesInScope → ℕ → SourceTerm → Term
   unfolded is ms scope p (IntTerm n) = Plain (TypeLocal IntType) (Literal (IntValue n))
   unfolded is ms scope p (TruthTerm b) = Plain (TypeLocal BoolType) (Literal (BoolValue b))
   unfolded is ms scope p (VarTerm x) = variable_term (binder_of x scope)
@@ -139,14 +139,15 @@ abbrev mutual
   unfolded is ms scope p (CallTerm f es) =
       unfolded_call is ms scope (params_of (meaning_of f ms)) [] p (body_of (meaning_of f ms)) es
 
-  pub unfolded_call : List Input → List Meaning → Scope → List Parameter → Scope → ℕ → (Scope → ℕ → Term)
-      → Expressions → Term
+  pub unfolded_call : List Input → List Meaning → NamesInScope → List Parameter → NamesInScope → ℕ
+      → (NamesInScope → ℕ → Term)
+      → SourceTerms → Term
   unfolded_call is ms scope params given p body NoTerms = body given p
   unfolded_call is ms scope params given p body (MoreTerms e es) =
       argument_term params given p (unfolded is ms scope (suc p) e)
       (λ more q. unfolded_call is ms scope (behind_first params) more q body es)
 
-  pub unfolded_all : List Input → List Meaning → Scope → ℕ → Expressions → Terms
+  pub unfolded_all : List Input → List Meaning → NamesInScope → ℕ → SourceTerms → Terms
   unfolded_all is ms scope p NoTerms = NoMore
   unfolded_all is ms scope p (MoreTerms e es) =
       more_terms p (unfolded is ms scope p e) (λ q. unfolded_all is ms scope q es)
@@ -160,7 +161,7 @@ meanings is ms [] = ms
 meanings is ms (f ∷ fs) = meanings is (ms ++ meaning is ms f ∷ []) fs
 
 -- the expression of `main`
-abbrev pub main_expression : List Declaration → Expression
+abbrev pub main_expression : List Declaration → SourceTerm
 main_expression [] = UidTerm
 main_expression (MainIs e ∷ ds) = e
 main_expression (LanguageIs n ∷ ds) = main_expression ds
@@ -172,5 +173,6 @@ main_expression (DefIs f params result body ∷ ds) = main_expression ds
 -- `main`, unfolded
 abbrev pub main_term : List Declaration → Term
 main_term ds =
-    unfolded (and_all nothing ds).inputs (meanings (and_all nothing ds).inputs [] (and_all nothing ds).functions) [] 0
+    unfolded (with_declarations nothing_declared ds).inputs
+    (meanings (with_declarations nothing_declared ds).inputs [] (with_declarations nothing_declared ds).functions) [] 0
     (main_expression ds)

@@ -3,7 +3,7 @@
 ghost use Rattle.std.specs.Prelude.{◌≡◌, IfOk, length, min};
 ghost use Rattle.fc_syntax.specs.Printable.{IsPrintable};
 ghost use Rattle.fc_syntax.specs.Terms.{program_of, term_of};
-ghost use Rattle.fc_types.specs.Before.{and_all, nothing};
+ghost use Rattle.fc_types.specs.Before.{with_declarations, nothing_declared};
 ghost use Rattle.fc_types.specs.Typing.{IsTyped};
 ghost use Rattle.fc_types.specs.Views.{known_of};
 ghost use Rattle.unfold.specs.Nodes.{Nodes};
@@ -20,7 +20,7 @@ use std::alloc::Global;
 /// The number of nodes of a typed program, from the table of what it declares, or 1,000,000 where it is greater. No
 /// node is made.
 pub fn count_nodes(alloc: Global, typed: &Typed, known: &Known<'_>) -> Result<u32, Memory>
-    requires { known_of known.now ≡ and_all nothing (program_of typed.now.program) }
+    requires { known_of known.now ≡ with_declarations nothing_declared (program_of typed.now.program) }
     ensures { IfOk result (λ n. n ≡ min MOST_COUNTED (length (Nodes (program_of typed.now.program)))) }
 {
     let program = typed.program();
@@ -31,7 +31,7 @@ pub fn count_nodes(alloc: Global, typed: &Typed, known: &Known<'_>) -> Result<u3
 /// What a program declares.
 pub fn table(alloc: Global, program: &Program) -> Result<Known<'_>, Memory>
     requires { IsTyped (program_of program.now) }
-    ensures { IfOk result (λ known. known_of known ≡ and_all nothing (program_of program.now)) }
+    ensures { IfOk result (λ known. known_of known ≡ with_declarations nothing_declared (program_of program.now)) }
 {
     let mut known = Known::new(alloc);
     for decl in &program.decls {

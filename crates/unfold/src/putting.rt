@@ -14,7 +14,7 @@ ghost use Rattle.fc_values.specs.declared.limits.TheConstants.{MOST_NODES};
 use crate::names::find_input;
 use crate::scopes::{Scope, lookup};
 use fc_nodes::{Node, Op};
-use fc_types::{Known, Refusal, builtin_type, copy_type};
+use fc_types::{Known, TypeRefusal, builtin_type, copy_type};
 use fc_values::{Builtin, InputTy, Local, LocalTy, Memory, Name, Ty};
 use std::alloc::Global;
 use std::slice::from_ref;
@@ -235,8 +235,8 @@ pub fn given_type(alloc: Global, builtin: Builtin, args: &[Ty]) -> Result<Ty, Me
 {
     match builtin_type(alloc, builtin, args) {
         Ok(ty) => Ok(ty),
-        Err(Refusal::Kind(_)) => Ok(Ty::Local(LocalTy::Int)),
-        Err(Refusal::Memory) => Err(Memory),
+        Err(TypeRefusal::Kind(_)) => Ok(Ty::Local(LocalTy::Int)),
+        Err(TypeRefusal::Memory) => Err(Memory),
     }
 }
 

@@ -4,7 +4,7 @@ ghost use Rattle.std.specs.Prelude.{◌≡◌, ◌≤◌, ◌<◌, ◌^◌, IfOk
 ghost use Rattle.fc_values.specs.declared.limits.TheConstants.{MOST_NODES};
 ghost use Rattle.fc_syntax.specs.Printable.{IsPrintable};
 ghost use Rattle.fc_syntax.specs.Terms.{program_of};
-ghost use Rattle.fc_types.specs.Before.{and_all, declared_by, nothing};
+ghost use Rattle.fc_types.specs.Before.{with_declarations, declared_by, nothing_declared};
 ghost use Rattle.fc_types.specs.Views.{known_of};
 ghost use Rattle.fc_nodes.specs.Program.{unfolding_of};
 ghost use Rattle.fc_nodes.specs.Terms.{view_of};
@@ -53,7 +53,7 @@ pub fn unfold(alloc: Global, typed: &Typed) -> Result<Unfolded, UnfoldFault>
 // The nodes of `main`.
 fn nodes_of(alloc: Global, known: &Known<'_>, program: &Program) -> Result<Vec<Node>, Memory>
     requires printable { IsPrintable (program_of program.now) }
-    requires known { known_of known.now ≡ and_all nothing (program_of program.now) }
+    requires known { known_of known.now ≡ with_declarations nothing_declared (program_of program.now) }
     requires few { length program.now.decls.items < 2 ^ 32 }
     requires small { length (Nodes (program_of program.now)) ≤ MOST_NODES }
     ensures { IfOk result (λ nodes. map view_of nodes.items ≡ Nodes (program_of program.now)) }

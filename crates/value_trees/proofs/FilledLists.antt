@@ -5,7 +5,7 @@ use Rattle.fc_values.specs.Types.{LocalType, IntType, BoolType, PairType, ValueT
 use Rattle.fc_values.specs.Values.{LocalValue, IntValue, BoolValue, PairValue, form_of}
 use Rattle.fc_values.specs.BuiltinTypes.{inner}
 use Rattle.fc_values.specs.Exports.{SlotValue, FlatExport, slot_at}
-use Rattle.fc_nodes.specs.Terms.{Term, Terms, Plain, Apply, Nbr, Evolve, If, Let, NoMore, More, size, kept, kept_all, type_of}
+use Rattle.fc_nodes.specs.Terms.{Term, Terms, Plain, Apply, Nbr, Evolve, If, Let, NoMore, More, size, kept, kept_all, term_type}
 use Rattle.value_trees.specs.SlotFits.{SlotFits, SlotsFit, AllSlotsFit, truth_in}
 use Rattle.value_trees.specs.KeptLists.{kept_only}
 use Rattle.value_trees.specs.KeptReads.{has_type}
@@ -270,5 +270,5 @@ lists_have_exports U v vs h m = by_taken (take_main U items) refl (plain_misfit 
     by_taken (Took tree []) e k =
         let f = filled U.declared.ceiling U.main true 0 items [] [] (ap leaving e) in
         let x : FlatExport = record { value = v; slots = f.slots } in
-        let r = whole_filled U items x [] [] refl refl (had_type U.declared.ceiling (inner (type_of U.main)) v h) f.fills in
+        let r = whole_filled U items x [] [] refl refl (had_type U.declared.ceiling (inner (term_type U.main)) v h) f.fills in
         (x, record { export = r.0; value = refl; list = r.1 ∙ plain_values vs })

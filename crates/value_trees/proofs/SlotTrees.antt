@@ -5,7 +5,7 @@ use Rattle.fc_values.specs.Values.{LocalValue, IntValue, BoolValue, PairValue, F
 use Rattle.fc_values.specs.BuiltinTypes.{inner}
 use Rattle.fc_values.specs.Exports.{SlotValue, FlatExport, slot_at}
 use Rattle.fc_values.specs.Trees.{Tree, Keep, Done, Then}
-use Rattle.fc_nodes.specs.Terms.{Term, Terms, Plain, Apply, Nbr, Evolve, If, Let, NoMore, More, type_of, kept, kept_all, kept_types, all_kept_types}
+use Rattle.fc_nodes.specs.Terms.{Term, Terms, Plain, Apply, Nbr, Evolve, If, Let, NoMore, More, term_type, kept, kept_all, kept_types, all_kept_types}
 use Rattle.fc_nodes.specs.Program.{Unfolding}
 use Rattle.fc_nodes.specs.Flat.{FitsTree, FitTrees, KeepsTruth, by_truth, IfTruth, tree_at, trees_at, Clear, Marked, AllMarked, IsExport}
 use Rattle.fc_nodes.proofs.Kept.{kept_long}
@@ -202,7 +202,7 @@ module _ (c : ℕ) (xs : List SlotValue) where
         (tree_fit t k f.0 m.0 (forms_first xs (kept_types t) (all_kept_types ts) k o) (omega arith), trees_fit ts (k + kept t) f.1 m.1 (forms_rest xs (kept_types t) (all_kept_types ts) k (k + kept t) (after_of xs t k) o) (omega arith))
 
 -- the slots of an export
-pub fit_export : (U : Unfolding) (x : FlatExport) → Fits U.declared.ceiling (inner (type_of U.main)) x.value → SlotsFit true U.declared.ceiling U.main 0 x.slots → length x.slots ≡ kept U.main → IsExport U x
+pub fit_export : (U : Unfolding) (x : FlatExport) → Fits U.declared.ceiling (inner (term_type U.main)) x.value → SlotsFit true U.declared.ceiling U.main 0 x.slots → length x.slots ≡ kept U.main → IsExport U x
 fit_export U x v h l =
     let f = fit_tree U.declared.ceiling x.slots U.main 0 h in
     let k = kept_long U.main in
@@ -212,7 +212,7 @@ fit_export U x v h l =
       marked = f.1;
     }
 
-pub export_fit : (U : Unfolding) (x : FlatExport) → IsExport U x → Fits U.declared.ceiling (inner (type_of U.main)) x.value × SlotsFit true U.declared.ceiling U.main 0 x.slots × (length x.slots ≡ kept U.main)
+pub export_fit : (U : Unfolding) (x : FlatExport) → IsExport U x → Fits U.declared.ceiling (inner (term_type U.main)) x.value × SlotsFit true U.declared.ceiling U.main 0 x.slots × (length x.slots ≡ kept U.main)
 export_fit U x h =
     let l = have_long (kept_types U.main) x.slots h.shaped in
     let k = kept_long U.main in

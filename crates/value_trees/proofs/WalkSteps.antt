@@ -8,7 +8,7 @@ use Rattle.fc_values.specs.Values.{LocalValue, Fits}
 use Rattle.fc_values.specs.BuiltinTypes.{inner}
 use Rattle.fc_values.specs.Exports.{SlotValue, FlatExport, slot_of, slots_of, slot_at}
 use Rattle.fc_nodes.specs.declared.nodes.Node.{Node}
-use Rattle.fc_nodes.specs.Terms.{Term, Plain, Apply, Nbr, Evolve, If, Let, type_of, kept, kept_all, Sort, kept_type, term_at, terms_by, HasNode, Laid, is_branching}
+use Rattle.fc_nodes.specs.Terms.{Term, Plain, Apply, Nbr, Evolve, If, Let, term_type, kept, kept_all, Sort, kept_type, term_at, terms_by, HasNode, Laid, is_branching}
 use Rattle.fc_nodes.specs.Flat.{IsExport}
 use Rattle.fc_nodes.specs.Program.{Program, Unfolding, unfolding_of, IsProgram}
 use Rattle.fc_nodes.proofs.Places.{AllAbove, laid_within}
@@ -72,7 +72,7 @@ module _ (g : Bool) (c : ℕ) (k : ℕ) (xs : List SlotValue) where
   kept_whole (If t x a b) = omega arith
   kept_whole (Let t a b) = omega arith
 
-pub type_is : (ns : List Node) (s : Sort) (t : ValueType) (ks : List ℕ) (u : Term) (p : ℕ) → HasNode ns p s t ks → Laid ns p u → type_of u ≡ t
+pub type_is : (ns : List Node) (s : Sort) (t : ValueType) (ks : List ℕ) (u : Term) (p : ℕ) → HasNode ns p s t ks → Laid ns p u → term_type u ≡ t
 type_is ns s t ks (Plain t' v) p h l = let e : t' ≡ t = cc in e
 type_is ns s t ks (Apply t' o ts) p h l = let l0 = l.0 in let e : t' ≡ t = cc in e
 type_is ns s t ks (Nbr t' a) p h l = let l0 = l.0 in let e : t' ≡ t = cc in e
@@ -161,14 +161,14 @@ ends_whole P n m (Some k) h = (λ e. (h.0, let same : k ≡ m = grind (arith, na
 
 -- the value of `main`
 module _ (P : Program) (p : IsProgram P) (s : Sort) (t : ValueType) (ks : List ℕ) (h : HasNode P.nodes 0 s t ks) (c : ℕ) (e : c ≡ P.declared.ceiling) (u : LocalType) (f : u ≡ inner t) (v : LocalValue) where
-  main_type : u ≡ inner (type_of (unfolding_of P).main)
+  main_type : u ≡ inner (term_type (unfolding_of P).main)
   main_type = f ∙ ap inner (sym (type_is P.nodes s t ks (term_at P.nodes 0) 0 h p.formed.laid))
 
   pub fits_main : Fits c u v → FitsMain (unfolding_of P) v
-  fits_main q = subst (λ d. Fits d (inner (type_of (unfolding_of P).main)) v) e (subst (λ w. Fits c w v) main_type q)
+  fits_main q = subst (λ d. Fits d (inner (term_type (unfolding_of P).main)) v) e (subst (λ w. Fits c w v) main_type q)
 
   pub main_fits : FitsMain (unfolding_of P) v → Fits c u v
-  main_fits q = subst (λ w. Fits c w v) (sym main_type) (subst (λ d. Fits d (inner (type_of (unfolding_of P).main)) v) (sym e) q)
+  main_fits q = subst (λ w. Fits c w v) (sym main_type) (subst (λ d. Fits d (inner (term_type (unfolding_of P).main)) v) (sym e) q)
 
 -- an export whose slots were walked to the end
 module _ (U : Unfolding) (x : FlatExport) (v : FitsMain U x.value) (n : ℕ) (e : n ≡ length x.slots) (r : Option ℕ) (w : WalkIs (SlotsFit true U.declared.ceiling U.main 0 x.slots) (0 + kept U.main) r) where

@@ -3,7 +3,7 @@ use Rattle.std.specs.Prelude.{◌≡◌, true, List, None}
 use Rattle.fc_values.specs.Values.{LocalValue}
 use Rattle.fc_values.specs.BuiltinTypes.{inner}
 use Rattle.fc_values.specs.Exports.{FlatExport}
-use Rattle.fc_nodes.specs.Terms.{type_of}
+use Rattle.fc_nodes.specs.Terms.{term_type}
 use Rattle.fc_nodes.specs.Program.{Unfolding}
 use Rattle.fc_nodes.specs.Flat.{IsExport, tree_export}
 use Rattle.value_trees.specs.KeptLists.{kept_values}
@@ -19,5 +19,5 @@ pub record Keeps (U : Unfolding) (v : LocalValue) (vs : List LocalValue) (x : Fl
 abbrev pub ListsHaveExports : Type 0
 ListsHaveExports =
     (U : Unfolding) (v : LocalValue) (vs : List LocalValue)
-    → has_type U.declared.ceiling (inner (type_of U.main)) v ≡ true → misfit_of U vs ≡ None
+    → has_type U.declared.ceiling (inner (term_type U.main)) v ≡ true → misfit_of U vs ≡ None
     → (x : FlatExport) × Keeps U v vs x

@@ -5,13 +5,13 @@ use Rattle.fc_values.specs.Types.{LocalType}
 use Rattle.fc_values.specs.Values.{LocalValue, Fits}
 use Rattle.fc_values.specs.BuiltinTypes.{inner}
 use Rattle.fc_values.specs.Exports.{slots_of}
-use Rattle.fc_nodes.specs.Terms.{type_of, term_at, terms_by, kept, kept_all}
+use Rattle.fc_nodes.specs.Terms.{term_type, term_at, terms_by, kept, kept_all}
 use Rattle.fc_nodes.specs.Program.{Program, Unfolding}
 use Rattle.value_trees.specs.SlotFits.{SlotsFit, AllSlotsFit, OwnSlotFits, after_own, WalkIs}
 
 -- a value that fits the type of `main`
 abbrev pub FitsMain : Unfolding → LocalValue → Type 0
-FitsMain U v = Fits U.declared.ceiling (inner (type_of U.main)) v
+FitsMain U v = Fits U.declared.ceiling (inner (term_type U.main)) v
 
 abbrev pub ends_at : ℕ → Option ℕ → Bool
 ends_at n None = false

@@ -9,7 +9,7 @@ use Rattle.fc_values.specs.Fields.{ValueLocal, FitsOver, Rises}
 use Rattle.fc_values.specs.Builtins.{argument_at, builtin_value}
 use Rattle.fc_values.specs.Laws.{ReadsPointwise}
 use Rattle.fc_nodes.specs.declared.verdicts.Verdict.TheVariants as verdict
-use Rattle.fc_nodes.specs.Terms.{NbrLink, ByRep, Term, Plain, Apply, Nbr, Evolve, If, Let, NoMore, More, type_of, size}
+use Rattle.fc_nodes.specs.Terms.{NbrLink, ByRep, Term, Plain, Apply, Nbr, Evolve, If, Let, NoMore, More, term_type, size}
 use Rattle.fc_nodes.specs.Program.{Program, Unfolding, unfolding_of, IsProgram}
 use Rattle.topology.specs.Networks.{Network, IsNetwork, Lives, lives, near, numbers}
 use Rattle.topology.proofs.Lemmas.{in_at}
@@ -102,25 +102,25 @@ module _ (analyses : YesAnalyses) (one_law : SolutionsAreOne) (P : Program) (N :
   lpart : Part P A M w.place w.local
   lpart = local_part analyses P N k is net same agreed w form
 
-  ltype : type_of w.local ≡ TypeLocal IntType
+  ltype : term_type w.local ≡ TypeLocal IntType
   ltype = (local_placed P is w form).type
 
   spart : (q : ℕ) (t : Term) → w.step ≡ StepValue q t → Part P A M q t
   spart q t e = (step_part analyses P N k is net same agreed w form q t e).part
 
-  stype : (q : ℕ) (t : Term) → w.step ≡ StepValue q t → type_of t ≡ TypeLocal IntType
+  stype : (q : ℕ) (t : Term) → w.step ≡ StepValue q t → term_type t ≡ TypeLocal IntType
   stype q t e = (step_placed P is w form q t e).type
 
   -- ---- costs are lawful
 
-  members_fit : (q : ℕ) (t : Term) (xs : List (ℕ × ℕ)) → type_of t ≡ TypeLocal IntType → IsFieldAt N q t xs → (d n : ℕ) → Contains xs (d, n) → n ≤ M
+  members_fit : (q : ℕ) (t : Term) (xs : List (ℕ × ℕ)) → term_type t ≡ TypeLocal IntType → IsFieldAt N q t xs → (d n : ℕ) → Contains xs (d, n) → n ≤ M
   members_fit q t xs ty h d n c =
       let m = member_is h.one.field xs (numbers N.devices) h.values d n c in
       let s = (solved_integers N q t h.one.field ty h.one.solves).most d m.0 in
       let e : integer_in (h.one.field d) ≡ n = ap integer_in m.1 in
       omega (arith, s, e)
 
-  pub starts_fit : (q : ℕ) (t : Term) (xs : List (ℕ × ℕ)) → type_of t ≡ TypeLocal IntType → IsFieldAt N q t xs → AreOf N xs × All (λ (d : ℕ × ℕ). d.1 ≤ M) xs
+  pub starts_fit : (q : ℕ) (t : Term) (xs : List (ℕ × ℕ)) → term_type t ≡ TypeLocal IntType → IsFieldAt N q t xs → AreOf N xs × All (λ (d : ℕ × ℕ). d.1 ≤ M) xs
   starts_fit q t xs ty h =
       (firsts_are h.one.field xs (numbers N.devices) h.values, λ i x l. members_fit q t xs ty h (get_or xs i x).0 (get_or xs i x).1 (Contains-get_or xs i x l))
 
@@ -173,7 +173,7 @@ module _ (analyses : YesAnalyses) (one_law : SolutionsAreOne) (P : Program) (N :
 
   -- ---- there are costs
 
-  pub one_at : HasOneSolution U N → (q : ℕ) (t : Term) → Part P A M q t → type_of t ≡ TypeLocal IntType → HasOneField N q t
+  pub one_at : HasOneSolution U N → (q : ℕ) (t : Term) → Part P A M q t → term_type t ≡ TypeLocal IntType → HasOneField N q t
   one_at one q t part ty = one_field one_law P N is net same A analysis.for analysis.ranges q t part ty one
 
   some_adds : HasOneSolution U N → (s : StepTerm) → w.step ≡ s → (a : AddValue) × AddsAre N s a
@@ -270,7 +270,7 @@ module _ (analyses : YesAnalyses) (one_law : SolutionsAreOne) (P : Program) (N :
     abbrev made : ℕ → ℕ × ℕ → ℕ
     made d m = min M (value m.0 + cost d m)
 
-    sum_gives : (p : ℕ) (u : Term) (st : StepTerm) → IsSum 0 p u st → w.step ≡ st → AddsAre N st ad → type_of u ≡ TypeField IntType → (H : ValueMap) → Solves N p u D V H → (d : ℕ) → Lives N d → Hood N net d (H d) (made d)
+    sum_gives : (p : ℕ) (u : Term) (st : StepTerm) → IsSum 0 p u st → w.step ≡ st → AddsAre N st ad → term_type u ≡ TypeField IntType → (H : ValueMap) → Solves N p u D V H → (d : ℕ) → Lives N d → Hood N net d (H d) (made d)
     sum_gives p u st (inverted.first t a b st' hd z) e k ty H sv d i =
         let m = two_maps N (suc p) a b D V sv.1 sv.2 in
         let x = heard_gives N net f value integer there no_binders (suc p) a m.first hd m.solves_first d i in

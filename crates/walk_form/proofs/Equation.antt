@@ -16,9 +16,9 @@ use Rattle.fc_values.proofs.Rising.{rises_tail}
 use Rattle.fc_nodes.specs.Terms.{Variable, Literal, Sense, Uid, NbrLink, ByRep, Term, Plain, Apply, Nbr, Evolve, If, Let}
 use Rattle.fc_nodes.specs.Variables.{is_heard}
 use Rattle.topology.specs.Networks.{Network, IsNetwork, Lives, lives, near, numbers}
-use Rattle.topology.specs.Nearby.{near_numbers}
+use Rattle.topology.specs.Nearby.{neighbour_numbers}
 use Rattle.topology.proofs.Lemmas.{AllNear, near_fits, near_rises}
-use Rattle.interval_facts.specs.Solutions.{Devices, ValueMap, ValueMaps, bind, near_among, around, field_over, field_of, local_map, Solves}
+use Rattle.interval_facts.specs.Solutions.{Devices, ValueMap, ValueMaps, bind, near_among, around, field_around, field_of, local_map, Solves}
 use Rattle.growth_facts.specs.Leads.{lead}
 use Rattle.growth_facts.proofs.Closeness.{lesser_lead}
 use Rattle.converge_laws.proofs.Agreement.{field_same}
@@ -150,8 +150,8 @@ with_other d n v (e ∷ es) o = by_test (nat_lt d e.0) (with_other d n v es o)
     by_test false h = ap (λ u. if nat_eq e.0 n then Some e.1 else u) h
 
 -- a field over a device and its neighbours, at a neighbour
-pub over_at : (d : ℕ) (v : LocalValue) (ms : List (ℕ × ℕ)) (f : ℕ × ℕ → LocalValue) (n w : ℕ) → Rises (near_numbers ms) → n ≢ d → Contains ms (n, w)
-    → argument_at n (field_over d v ms f) ≡ Some (f (n, w))
+pub over_at : (d : ℕ) (v : LocalValue) (ms : List (ℕ × ℕ)) (f : ℕ × ℕ → LocalValue) (n w : ℕ) → Rises (neighbour_numbers ms) → n ≢ d → Contains ms (n, w)
+    → argument_at n (field_around d v ms f) ≡ Some (f (n, w))
 over_at d v ms f n w r o h =
     with_other d n v (map (λ (m : ℕ × ℕ). (m.0, f m)) ms) o
     ∙ contains_at (map (λ (m : ℕ × ℕ). (m.0, f m)) ms) n (f (n, w)) (subst Rises (sym (entries_over f ms)) r) (to_map (λ (m : ℕ × ℕ). (m.0, f m)) ms (n, w) h)
@@ -191,20 +191,20 @@ without d n (k ∷ ns) o h = by_test (nat_lt d k) h (without d n ns o)
     by_test true e f = own (nat_eq n k || is_in n ns) e
     by_test false e f = rest (nat_eq n k) f e
 
-near_has : (ms : List (ℕ × ℕ)) (n : ℕ) → is_in n (near_numbers ms) ≡ true → (w : ℕ) × Contains ms (n, w)
+near_has : (ms : List (ℕ × ℕ)) (n : ℕ) → is_in n (neighbour_numbers ms) ≡ true → (w : ℕ) × Contains ms (n, w)
 near_has [] n h = absurd cc
 near_has (m ∷ ms) n h = by_test (nat_eq n m.0) refl h (near_has ms n)
   where
-    by_test : (c : Bool) → nat_eq n m.0 ≡ c → (c || is_in n (near_numbers ms)) ≡ true → (is_in n (near_numbers ms) ≡ true → (w : ℕ) × Contains ms (n, w))
+    by_test : (c : Bool) → nat_eq n m.0 ≡ c → (c || is_in n (neighbour_numbers ms)) ≡ true → (is_in n (neighbour_numbers ms) ≡ true → (w : ℕ) × Contains ms (n, w))
         → (w : ℕ) × Contains (m ∷ ms) (n, w)
     by_test true t e rest = (m.1, subst (λ u. Contains (m ∷ ms) (u, m.1)) (sym (eqb-true n m.0 t)) (contains_here m ms))
     by_test false t e rest = let r = rest e in (r.0, contains_later m ms (n, r.0) r.1)
 
-has_near : (ms : List (ℕ × ℕ)) (n w : ℕ) → Contains ms (n, w) → is_in n (near_numbers ms) ≡ true
+has_near : (ms : List (ℕ × ℕ)) (n w : ℕ) → Contains ms (n, w) → is_in n (neighbour_numbers ms) ≡ true
 has_near [] n w h = let l = h.1 in absurd (omega (arith, l))
 has_near (m ∷ ms) n w h = elim (contains_first m ms (n, w) h) [
   | inl f ↦ let z : nat_eq n m.0 ≡ true = eq-eqb n m.0 (sym (ap (λ (u : ℕ × ℕ). u.0) f)) in rw z refl
-  | inr g ↦ or_more (nat_eq n m.0) (is_in n (near_numbers ms)) (has_near ms n w g)
+  | inr g ↦ or_more (nat_eq n m.0) (is_in n (neighbour_numbers ms)) (has_near ms n w g)
 ]
   where
     or_more : (a b : Bool) → b ≡ true → (a || b) ≡ true
@@ -237,7 +237,7 @@ module _ (N : Network) (net : IsNetwork N) where
   pub near_all : (d : ℕ) → near_among N D d ≡ near N d
   near_all d = all_live d (near N d) (near_fits N.declared (numbers N.devices) d N.links net.links)
 
-  pub near_up : (d : ℕ) → Rises (near_numbers (near N d))
+  pub near_up : (d : ℕ) → Rises (neighbour_numbers (near N d))
   near_up d = near_rises N.declared (numbers N.devices) d N.links net.links
 
   -- ---- what is heard of the variable
@@ -245,7 +245,7 @@ module _ (N : Network) (net : IsNetwork N) where
   heard_solved : (f : ℕ → LocalValue) (W : ValueMaps) (p : ℕ) (a : Term) (K : ValueMap) → is_heard ByRep 0 a ≡ true → Solves N p a D (bind 0 (local_map f) W) K → (d : ℕ) → Lives N d → K d ≡ field_of N D f d
   heard_solved f W p (Nbr t (Plain u (Variable k))) K e s d i =
       let z : k ≡ 0 = eqb-true k 0 e in
-      s.3 d i ∙ field_same N D s.1 f (λ n j. one (s.1 n) (f n) (s.2.1 n j ∙ ap (λ y. restricted n (near_numbers (near_among N D n)) (bind 0 (local_map f) W y n)) z)) d i
+      s.3 d i ∙ field_same N D s.1 f (λ n j. one (s.1 n) (f n) (s.2.1 n j ∙ ap (λ y. restricted n (neighbour_numbers (near_among N D n)) (bind 0 (local_map f) W y n)) z)) d i
     where
       one : (v w : LocalValue) → ValueLocal v ≡ ValueLocal w → v ≡ w
       one v w e = cc
@@ -269,9 +269,9 @@ module _ (N : Network) (net : IsNetwork N) where
   Gives d v g = (n w : ℕ) → Contains (near N d) (n, w) → n ≢ d → argument_at n v ≡ Some (IntValue (g (n, w)))
 
   pub over_gives : (d : ℕ) (v : LocalValue) (f : ℕ × ℕ → LocalValue) (g : ℕ × ℕ → ℕ) → ((n w : ℕ) → Contains (near N d) (n, w) → f (n, w) ≡ IntValue (g (n, w)))
-      → (x : AnyValue) → x ≡ field_over d v (near_among N D d) f → Gives d x g
+      → (x : AnyValue) → x ≡ field_around d v (near_among N D d) f → Gives d x g
   over_gives d v f g h x e n w c o =
-      ap (argument_at n) (e ∙ ap (λ ms. field_over d v ms f) (near_all d)) ∙ over_at d v (near N d) f n w (near_up d) o c ∙ ap (λ y. Some y) (h n w c)
+      ap (argument_at n) (e ∙ ap (λ ms. field_around d v ms f) (near_all d)) ∙ over_at d v (near N d) f n w (near_up d) o c ∙ ap (λ y. Some y) (h n w c)
 
   pub heard_gives : (f : ℕ → LocalValue) (g : ℕ → ℕ) → ((n : ℕ) → Lives N n → f n ≡ IntValue (g n)) → ((d n w : ℕ) → Contains (near N d) (n, w) → Lives N n)
       → (W : ValueMaps) (p : ℕ) (a : Term) (K : ValueMap) → is_heard ByRep 0 a ≡ true → Solves N p a D (bind 0 (local_map f) W) K → (d : ℕ) → Lives N d → Gives d (K d) (λ m. g m.0)
@@ -303,10 +303,10 @@ module _ (N : Network) (net : IsNetwork N) where
       let r = field_back (around N D d) H fit in
       let es = r.0 in
       let p = law op.Add M d (x ∷ y ∷ []) es refl (e ∙ ap (λ v. Some v) r.1) in
-      let over : devices es ≡ with_number d (near_numbers (near N d)) = r.2 ∙ ap (λ ms. with_number d (near_numbers ms)) (near_all d) in
+      let over : devices es ≡ with_number d (neighbour_numbers (near N d)) = r.2 ∙ ap (λ ms. with_number d (neighbour_numbers ms)) (near_all d) in
       let at : (n w : ℕ) → Contains (near N d) (n, w) → n ≢ d → value_at n es ≡ Some (IntValue (g (n, w))) =
       λ n w c o.
-      let there : is_in n (devices es) ≡ true = subst (λ ds. is_in n ds ≡ true) (sym over) (in_with d n (near_numbers (near N d)) (has_near (near N d) n w c)) in
+      let there : is_in n (devices es) ≡ true = subst (λ ds. is_in n ds ≡ true) (sym over) (in_with d n (neighbour_numbers (near N d)) (has_near (near N d) n w c)) in
       p.value n ∙ rw there (add_both n x y (a (n, w)) (b (n, w)) (gx n w c o) (gy n w c o)) ∙ ap (λ k. Some (IntValue k)) (sum (n, w)) in
       record {
         entries = es;
@@ -314,7 +314,7 @@ module _ (N : Network) (net : IsNetwork N) where
         fit = r.3;
         neighbour = λ n w c o. at_contains es n (IntValue (g (n, w))) (at n w c o);
         entry = λ n v o c.
-            let ins = without d n (near_numbers (near N d)) o (subst (λ ds. is_in n ds ≡ true) over (devices_has es n (IntValue v) c)) in
+            let ins = without d n (neighbour_numbers (near N d)) o (subst (λ ds. is_in n ds ≡ true) over (devices_has es n (IntValue v) c)) in
             let w = near_has (near N d) n ins in
             (w.0, w.1, some_integer v (g (n, w.0)) (sym (contains_at es n (IntValue v) p.rising c) ∙ at n w.0 w.1 o));
       }

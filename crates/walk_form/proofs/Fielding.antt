@@ -6,7 +6,7 @@ use Rattle.std.proofs.lemmas.Bool.{eqb-true, eq-eqb}
 use Rattle.fc_values.specs.Types.{LocalType, IntType, TypeLocal}
 use Rattle.fc_values.specs.Values.{LocalValue, IntValue, BoolValue, PairValue}
 use Rattle.fc_values.specs.Fields.{Entries, AnyValue, ValueLocal, ValueField, FitsOver, is_in}
-use Rattle.fc_nodes.specs.Terms.{ByRep, Term, Evolve, type_of, size}
+use Rattle.fc_nodes.specs.Terms.{ByRep, Term, Evolve, term_type, size}
 use Rattle.fc_nodes.specs.Typing.{Scope, HasType}
 use Rattle.fc_nodes.specs.Variables.{occurs}
 use Rattle.fc_nodes.specs.Program.{Program, Unfolding, unfolding_of, IsProgram}
@@ -59,7 +59,7 @@ pub record Integers (N : Network) (f : ℕ → LocalValue) : Type 0 where
   pub is : (d : ℕ) → Lives N d → f d ≡ IntValue (integer_in (f d))
   pub most : (d : ℕ) → Lives N d → integer_in (f d) ≤ N.declared.ceiling
 
-pub solved_integers : (N : Network) (p : ℕ) (t : Term) (f : ℕ → LocalValue) → type_of t ≡ TypeLocal IntType → SolvesAt N p t f → Integers N f
+pub solved_integers : (N : Network) (p : ℕ) (t : Term) (f : ℕ → LocalValue) → term_type t ≡ TypeLocal IntType → SolvesAt N p t f → Integers N f
 solved_integers N p t f ty s =
     let fit = fits_of N t p (lives N) no_binders (local_map f) s in
     let at : (d : ℕ) → Lives N d → FitsOver N.declared.ceiling (around N (lives N) d) (TypeLocal IntType) (ValueLocal (f d)) =
@@ -112,7 +112,7 @@ module _ (one_law : SolutionsAreOne) (P : Program) (N : Network) (is : IsProgram
         (typed_under N.declared scope (suc 0 + size part.start) part.body q t part.stands (body_typed part.start part.body part.main)) (refl, tt, tt) holds s
         (subst (λ D. Shows (range_of U) q (node_ranges D ((0, full D.ceiling IntType) ∷ []) q t)) (sym same) shows))
 
-    module _ (type : type_of t ≡ TypeLocal IntType) where
+    module _ (type : term_type t ≡ TypeLocal IntType) where
       -- a solution of the program rests on one
       some_field : HasOneSolution U N → (f : ℕ → LocalValue) × SolvesAt N q t f
       some_field one =
@@ -164,11 +164,11 @@ are_integers : (f : ℕ → LocalValue) (ns : List ℕ) → ((d : ℕ) → is_in
 are_integers f [] h = refl
 are_integers f (n ∷ ns) h = ap₂ {A = LocalValue} {B = Entries} (λ v es. (n, v) ∷ es) (sym (h n (here n ns))) (are_integers f ns (λ d k. h d (further n d ns k)))
 
-pub field_at : (N : Network) (q : ℕ) (t : Term) (one : HasOneField N q t) → type_of t ≡ TypeLocal IntType → IsFieldAt N q t (integers_in (entries one.field (numbers N.devices)))
+pub field_at : (N : Network) (q : ℕ) (t : Term) (one : HasOneField N q t) → term_type t ≡ TypeLocal IntType → IsFieldAt N q t (integers_in (entries one.field (numbers N.devices)))
 field_at N q t one type = record { one = one; values = are_integers one.field (numbers N.devices) (λ d i. (solved_integers N q t one.field type one.solves).is d i) }
 
 -- the stabilised field of the term alone
-pub alone_field : (N : Network) (q : ℕ) (t : Term) (W : Unfolding) (es : Entries) → 4 ≤ q → IsNetwork N → W.main ≡ alone_term q t → occurs 0 t ≡ false → type_of t ≡ TypeLocal IntType
+pub alone_field : (N : Network) (q : ℕ) (t : Term) (W : Unfolding) (es : Entries) → 4 ≤ q → IsNetwork N → W.main ≡ alone_term q t → occurs 0 t ≡ false → term_type t ≡ TypeLocal IntType
     → (one : HasOneField N q t) → IsStableField W N es → IsFieldAt N q t (integers_in es)
 alone_field N q t W es low net main free type one stable =
     let s : Solves N 0 (alone_term q t) (lives N) no_binders (local_map stable.one.field) =

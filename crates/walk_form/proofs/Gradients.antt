@@ -5,7 +5,7 @@ use Rattle.fc_values.specs.declared.builtins.Builtin.TheVariants as op
 use Rattle.fc_values.specs.Types.{LocalType, IntType, ValueType, TypeLocal}
 use Rattle.fc_values.specs.BuiltinTypes.{inner}
 use Rattle.fc_nodes.specs.declared.verdicts.Verdict.TheVariants as verdict
-use Rattle.fc_nodes.specs.Terms.{Evolution, ByRep, Term, Plain, Apply, Nbr, Evolve, If, Let, NoMore, More, type_of, size}
+use Rattle.fc_nodes.specs.Terms.{Evolution, ByRep, Term, Plain, Apply, Nbr, Evolve, If, Let, NoMore, More, term_type, size}
 use Rattle.fc_nodes.specs.Variables.{occurs, is_own, is_heard}
 use Rattle.fc_nodes.specs.Program.{Program, Unfolding, unfolding_of, IsProgram}
 use Rattle.topology.specs.Networks.{Network, IsNetwork}
@@ -40,7 +40,7 @@ heard_occurs x (If u c a b) e = absurd cc
 heard_occurs x (Let u a b) e = absurd cc
 
 module _ (m : ℕ) (R : ℕ → RangeValue) (x : ℕ) where
-  heard_growth : (q : ℕ) (a : Term) → is_heard ByRep x a ≡ true → growth_of m R ByRep x q a ≡ only_if (leads (inner (type_of a))) q (Grows 0)
+  heard_growth : (q : ℕ) (a : Term) → is_heard ByRep x a ≡ true → growth_of m R ByRep x q a ≡ only_if (leads (inner (term_type a))) q (Grows 0)
   heard_growth q (Nbr t a) e = let o : occurs x a ≡ true = heard_occurs x (Nbr t a) e in let h : is_own x a ≡ true = e in rw (o, h) refl
   heard_growth q (Plain u l) e = absurd cc
   heard_growth q (Apply u o xs) e = absurd cc
@@ -59,17 +59,17 @@ module _ (m : ℕ) (R : ℕ → RangeValue) (x : ℕ) where
 
   free_second : (p q r : ℕ) (a b : Term) (c : ℕ) (g h : GrowthValue) (t : Bool) → occurs x b ≡ t
       → on_one_side true t p (raised m (least_integer (R r)) g) h ≡ Grows c → 1 ≤ c
-      → g ≡ only_if (leads (inner (type_of a))) q (Grows 0) → Free r b
+      → g ≡ only_if (leads (inner (term_type a))) q (Grows 0) → Free r b
   free_second p q r a b c g h true k e l f = absurd cc
   free_second p q r a b c g h false k e l f =
-      record { free = k; some = some_least q (least_integer (R r)) c (leads (inner (type_of a))) (ap (raised m (least_integer (R r))) (sym f) ∙ e) l }
+      record { free = k; some = some_least q (least_integer (R r)) c (leads (inner (term_type a))) (ap (raised m (least_integer (R r))) (sym f) ∙ e) l }
 
   free_first : (p q r : ℕ) (a b : Term) (c : ℕ) (g h : GrowthValue) (t : Bool) → occurs x a ≡ t
       → on_one_side t true p h (raised m (least_integer (R r)) g) ≡ Grows c → 1 ≤ c
-      → g ≡ only_if (leads (inner (type_of b))) q (Grows 0) → Free r a
+      → g ≡ only_if (leads (inner (term_type b))) q (Grows 0) → Free r a
   free_first p q r a b c g h true k e l f = absurd cc
   free_first p q r a b c g h false k e l f =
-      record { free = k; some = some_least q (least_integer (R r)) c (leads (inner (type_of b))) (ap (raised m (least_integer (R r))) (sym f) ∙ e) l }
+      record { free = k; some = some_least q (least_integer (R r)) c (leads (inner (term_type b))) (ap (raised m (least_integer (R r))) (sym f) ∙ e) l }
 
   or_second : (a b : Bool) → b ≡ true → (a || (b || false)) ≡ true
   or_second true b e = refl

@@ -6,7 +6,7 @@ use Rattle.std.specs.declared.result.Result.TheVariants.{Ok, Err}
 use Rattle.fc_values.specs.declared.builtins.Builtin.TheVariants as op
 use Rattle.fc_values.specs.Types.{LocalType, IntType, BoolType, PairType, ValueType, TypeLocal, TypeField}
 use Rattle.fc_nodes.specs.declared.verdicts.Reason.{Reason}
-use Rattle.fc_nodes.specs.Terms.{Literal, Variable, Sense, Uid, NbrLink, ByRep, ByShare, Term, Terms, Plain, Apply, Nbr, Evolve, If, Let, NoMore, More, type_of, size}
+use Rattle.fc_nodes.specs.Terms.{Literal, Variable, Sense, Uid, NbrLink, ByRep, ByShare, Term, Terms, Plain, Apply, Nbr, Evolve, If, Let, NoMore, More, term_type, size}
 use Rattle.fc_nodes.specs.Variables.{is_heard}
 use Rattle.fc_nodes.specs.Program.{Unfolding}
 use Rattle.fragment_check.specs.declared.kinds.Pattern.{Pattern}
@@ -18,7 +18,7 @@ use Rattle.walk_form.specs.Forms.{StepTerm, StepValue, StepWeight, WalkTerms, is
 -- what a summand adds
 pub data IsAdded (p : ℕ) (b : Term) : StepTerm → Type 0 where
   links : (t : ValueType) → b ≡ Plain t NbrLink → IsAdded p b StepWeight
-  local : (t : LocalType) → type_of b ≡ TypeLocal t → IsAdded p b (StepValue p b)
+  local : (t : LocalType) → term_type b ≡ TypeLocal t → IsAdded p b (StepValue p b)
 
 -- the two summands: what is heard of x, and what is added, whichever stands first
 pub data IsSum (x p : ℕ) : Term → StepTerm → Type 0 where
@@ -59,13 +59,13 @@ some_same s r e = cc
 added_is : (p : ℕ) (b : Term) (s : StepTerm) → added_term p b ≡ Some s → IsAdded p b s
 added_is p b s e = by_links (is_links b) refl e
   where
-    by_type : (t : ValueType) → type_of b ≡ t → added_value p b t ≡ Some s → IsAdded p b s
+    by_type : (t : ValueType) → term_type b ≡ t → added_value p b t ≡ Some s → IsAdded p b s
     by_type (TypeLocal t) k e = subst (IsAdded p b) (some_same (StepValue p b) s e) (local t k)
     by_type (TypeField t) k e = absurd cc
 
-    by_links : (c : Bool) → is_links b ≡ c → (if c then Some StepWeight else added_value p b (type_of b)) ≡ Some s → IsAdded p b s
+    by_links : (c : Bool) → is_links b ≡ c → (if c then Some StepWeight else added_value p b (term_type b)) ≡ Some s → IsAdded p b s
     by_links true k e = let l = links_of b k in subst (IsAdded p b) (some_same StepWeight s e) (links l.0 l.1)
-    by_links false k e = by_type (type_of b) refl e
+    by_links false k e = by_type (term_type b) refl e
 
 beside_is : (x p : ℕ) (t : ValueType) (xs : Terms) (s : StepTerm) → added_beside x (suc p) (two_of xs) ≡ Some s → IsSum x p (Apply t op.Add xs) s
 beside_is x p t NoMore s e = absurd cc

@@ -18,7 +18,7 @@ use Rattle.fc_nodes.specs.declared.verdicts.Reason.TheVariants as reason
 use Rattle.fragment_check.specs.declared.kinds.Pattern.{Pattern}
 use Rattle.fragment_check.specs.declared.kinds.Pattern.TheVariants as pattern
 use Rattle.fragment_check.specs.declared.facts.Guarding.{Guarding}
-use Rattle.fragment_check.specs.Patterns.{two_of, three_of, settled_hood, hood_of, rise_of, risen_hood, risen_form, Form, IsHood, IsRise, IsOther, form_by, form_of, by_form, by_guarding, guarding_of, minimising, rising, body_pattern, pattern_of, JudgedPlace, judged, all_judged, first_refused, refusal_first, is_nested, is_unguarded}
+use Rattle.fragment_check.specs.Patterns.{two_of, three_of, settled_hood, hood_of, rise_of, risen_hood, risen_form, Form, IsHood, IsRise, IsOther, form_by, evolution_form, by_form, by_guarding, guarding_of, minimising, rising, body_pattern, pattern_of, JudgedPlace, judged, all_judged, first_refused, refusal_first, is_nested, is_unguarded}
 use Rattle.fragment_check.specs.Verdicts.{verdict_of, verdict_by, judged_of, main_level}
 use Rattle.walk_form.specs.Alone.{filler, alone_term}
 use Rattle.walk_form.proofs.Laying.{filled}
@@ -126,7 +126,7 @@ FormIn n (IsHood h l) = n ≡ suc (size h + size l)
 FormIn n (IsRise h l s) = n ≡ suc (suc (suc (size h + size l + size s)))
 FormIn n IsOther = Unit {0}
 
-form_in : (e : Evolution) (x : ℕ) (u : Term) → FormIn (size u) (form_of e x u)
+form_in : (e : Evolution) (x : ℕ) (u : Term) → FormIn (size u) (evolution_form e x u)
 form_in e x u = by_hood (hood_of x u) (hood_in x u)
   where
     by_first : (n k : ℕ) (s : Term) (o : Option (Term × Term)) → HoodIn k o → n ≡ suc (k + 1 + size s) → FormIn n (risen_hood o s)
@@ -209,7 +209,7 @@ module _ (m : ℕ) (R S : ℕ → RangeValue) where
     body_same : (p : ℕ) (u : Term) → SameOn p (size u) → body_pattern m R e x p u ≡ body_pattern m S e x p u
     body_same p u h =
         ap (λ r. choose (occurs x u) (is_nested e x u) (is_unguarded e x u) (by_guarding (guarding_of e x u) r))
-        (form_same p (guarding_of e x u) (size u) (form_of e x u) (form_in e x u) h)
+        (form_same p (guarding_of e x u) (size u) (evolution_form e x u) (form_in e x u) h)
       where
         choose : Bool → Bool → Bool → Result Pattern Reason → Result Pattern Reason
         choose o n g r = if not o then Ok pattern.Constant else (if n then Err reason.Nested else (if g then Err reason.Unguarded else r))

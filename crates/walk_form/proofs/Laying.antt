@@ -10,7 +10,7 @@ use Rattle.fc_values.specs.Types.{LocalType, IntType, BoolType, ValueType, TypeL
 use Rattle.fc_values.specs.Values.{IntValue, BoolValue}
 use Rattle.fc_values.specs.BuiltinTypes.{HasRule, takes_not}
 use Rattle.fc_nodes.specs.declared.nodes.Node.{Node}
-use Rattle.fc_nodes.specs.Terms.{Literal, ByRep, Term, Terms, Plain, Apply, Nbr, Evolve, If, Let, NoMore, More, type_of, size, sizes, Sort, OfLeaf, OfApply, OfEvolve, OfLet, View, Has, sort_of, view_of, view_at, term_at, HasNode, Laid, AllLaid, Later, KidsLater, WellFormed}
+use Rattle.fc_nodes.specs.Terms.{Literal, ByRep, Term, Terms, Plain, Apply, Nbr, Evolve, If, Let, NoMore, More, term_type, size, sizes, Sort, OfLeaf, OfApply, OfEvolve, OfLet, View, Has, sort_of, view_of, view_at, term_at, HasNode, Laid, AllLaid, Later, KidsLater, WellFormed}
 use Rattle.fc_nodes.specs.Typing.{Scope, HasType}
 use Rattle.fc_nodes.specs.Program.{Program, IsLawful, IsProgram}
 use Rattle.fc_nodes.proofs.Places.{AllAbove, all_above, formed_above, in_range}
@@ -31,7 +31,7 @@ filled p l = let e = size_nots (p - 4) in omega (arith, e, l)
 
 -- ---- types
 
-nots_type : (k : ℕ) → type_of (nots k) ≡ TypeLocal BoolType
+nots_type : (k : ℕ) → term_type (nots k) ≡ TypeLocal BoolType
 nots_type zero = refl
 nots_type (suc k) = refl
 
@@ -40,12 +40,12 @@ not_rule t e = subst (λ u. HasRule op.Not (u ∷ []) (TypeLocal BoolType)) (sym
 
 nots_typed : (D : Declarations) (scope : Scope) (p k : ℕ) → HasType D scope p (nots k)
 nots_typed D scope p zero = refl
-nots_typed D scope p (suc k) = (not_rule (type_of (nots k)) (nots_type k), (nots_typed D scope (suc p) k, tt))
+nots_typed D scope p (suc k) = (not_rule (term_type (nots k)) (nots_type k), (nots_typed D scope (suc p) k, tt))
 
 filler_typed : (D : Declarations) (scope : Scope) (p k : ℕ) → HasType D scope p (filler k)
 filler_typed D scope p k = (refl, nots_typed D scope (suc p) k, (refl, omega arith))
 
-pub alone_typed : (D : Declarations) (p : ℕ) (t : Term) → 4 ≤ p → type_of t ≡ TypeLocal IntType → HasType D ((0, TypeLocal IntType) ∷ []) p t → HasType D [] 0 (alone_term p t)
+pub alone_typed : (D : Declarations) (p : ℕ) (t : Term) → 4 ≤ p → term_type t ≡ TypeLocal IntType → HasType D ((0, TypeLocal IntType) ∷ []) p t → HasType D [] 0 (alone_term p t)
 alone_typed D p t l e h =
     (IntType, refl, refl, e, filler_typed D [] 1 (p - 4), subst (λ q. HasType D ((0, TypeLocal IntType) ∷ []) q t) (sym (filled p l)) h)
 
@@ -237,7 +237,7 @@ is_alone P s ms D is same span h alone =
         lawful = subst (λ d. IsLawful d) (sym same) is.lawful;
         formed = alone_formed P.nodes ms s.from s.end h.low (omega (arith, e)) (formed_above P.nodes is.formed) alone t span.stands.laid e;
         typed = subst (λ d. HasType d [] 0 (term_at ms 0)) (sym same) (subst (HasType P.declared [] 0) (sym main) typed);
-        root = (IntType, ap type_of main);
+        root = (IntType, ap term_type main);
         short = let w = ends_within P s is span h in let m = alone.many in let z = is.short in omega (arith, w, m, z);
       },
       main,

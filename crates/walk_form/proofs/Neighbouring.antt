@@ -3,11 +3,11 @@ use Rattle.std.proofs.Common.{◌≢◌, ℕ, ◌≤◌}
 use Rattle.std.specs.List.{Contains}
 use Rattle.fc_values.specs.Fields.{Rises}
 use Rattle.topology.specs.Networks.{Network, IsNetwork, Lives, near}
-use Rattle.topology.specs.Nearby.{near_numbers}
+use Rattle.topology.specs.Nearby.{neighbour_numbers}
 use Rattle.walk_form.proofs.Costing.{Neighbours}
 
 pub neighbours : (N : Network) → IsNetwork N
-    → ((n : Network) (d : ℕ) → IsNetwork n → Rises (near_numbers (near n d)))
+    → ((n : Network) (d : ℕ) → IsNetwork n → Rises (neighbour_numbers (near n d)))
     → ((n : Network) (d e w : ℕ) → IsNetwork n → Contains (near n d) (e, w) → Lives n e)
     → ((n : Network) (d e w : ℕ) → IsNetwork n → Contains (near n d) (e, w) → e ≢ d)
     → ((n : Network) (d e w : ℕ) → IsNetwork n → Contains (near n d) (e, w) → n.declared.least ≤ w)

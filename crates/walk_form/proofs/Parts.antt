@@ -4,7 +4,7 @@ use Rattle.fc_values.specs.declared.builtins.Builtin.TheVariants as op
 use Rattle.fc_values.specs.Types.{LocalType, IntType, ValueType, TypeLocal, TypeField, Declarations}
 use Rattle.fc_values.specs.BuiltinTypes.{inner, HasRule, folds_min, Takes, takes_add}
 use Rattle.fc_nodes.specs.declared.verdicts.Verdict.TheVariants as verdict
-use Rattle.fc_nodes.specs.Terms.{ByRep, Term, Apply, Evolve, NoMore, More, type_of, size, term_at}
+use Rattle.fc_nodes.specs.Terms.{ByRep, Term, Apply, Evolve, NoMore, More, term_type, size, term_at}
 use Rattle.fc_nodes.specs.Typing.{Scope, HasType}
 use Rattle.fc_nodes.specs.Variables.{occurs}
 use Rattle.fc_nodes.specs.Program.{Program, unfolding_of, IsProgram}
@@ -50,11 +50,11 @@ local_int (TypeField m) l e f = absurd cc
 
 -- the same integer type stands for a value of the body
 pub hood_int : (D : Declarations) (scope : Scope) (p : ℕ) (t : ValueType) (h l : Term) → t ≡ TypeLocal IntType → HasType D scope p (Apply t op.MinHoodLoc (More h (More l NoMore)))
-    → (type_of h ≡ TypeField IntType) × (type_of l ≡ TypeLocal IntType)
+    → (term_type h ≡ TypeField IntType) × (term_type l ≡ TypeLocal IntType)
 hood_int D scope p t h l e ty =
-    let r = hood_of (type_of h ∷ type_of l ∷ []) t ty.0 in
+    let r = hood_of (term_type h ∷ term_type l ∷ []) t ty.0 in
     let s = local_same r.0 IntType (sym r.2 ∙ e) in
-    let both = both_same (type_of h) (type_of l) (TypeField r.0) (TypeLocal r.0) r.1 in
+    let both = both_same (term_type h) (term_type l) (TypeField r.0) (TypeLocal r.0) r.1 in
     (both.0 ∙ ap TypeField s, both.1 ∙ ap TypeLocal s)
 
 -- ---- where they stand
@@ -64,33 +64,33 @@ pub record Placed (P : Program) (q : ℕ) (t : Term) : Type 0 where
   pub body : Term
   pub main : (unfolding_of P).main ≡ Evolve (TypeLocal IntType) ByRep start body
   pub stands : Under (suc 0 + size start) body q t
-  pub type : type_of t ≡ TypeLocal IntType
+  pub type : term_type t ≡ TypeLocal IntType
   pub low : 4 ≤ q
 
 step_same : (p q : ℕ) (a b : Term) → StepValue p a ≡ StepValue q b → (p ≡ q) × (a ≡ b)
 step_same p q a b e = (cc, cc)
 
-value_is : (p q : ℕ) (b t : Term) (s : StepTerm) → IsAdded p b s → s ≡ StepValue q t → (p ≡ q) × (b ≡ t) × ((l : LocalType) × (type_of b ≡ TypeLocal l))
+value_is : (p q : ℕ) (b t : Term) (s : StepTerm) → IsAdded p b s → s ≡ StepValue q t → (p ≡ q) × (b ≡ t) × ((l : LocalType) × (term_type b ≡ TypeLocal l))
 value_is p q b t s (inverted.links u k) e = absurd cc
 value_is p q b t s (inverted.local l k) e = let f = step_same p q b t e in (f.0, f.1, (l, k))
 
 -- what a sum adds stands in it, and is an integer
 record InSum (D : Declarations) (scope : Scope) (p : ℕ) (h : Term) (q : ℕ) (t : Term) : Type 0 where
   stands : Under p h q t
-  type : HasType D scope p h → type_of t ≡ TypeLocal IntType
+  type : HasType D scope p h → term_type t ≡ TypeLocal IntType
 
 in_sum : (D : Declarations) (scope : Scope) (p : ℕ) (h : Term) (q : ℕ) (t : Term) (s : StepTerm) → IsSum 0 p h s → s ≡ StepValue q t → InSum D scope p h q t
 in_sum D scope p h q t s (inverted.first u a b s' hd ad) e =
     let v = value_is (suc p + size a) q b t s ad e in
     subst (λ n. InSum D scope p h n t) v.0 (subst (λ z. InSum D scope p h (suc p + size a) z) v.1 (record {
       stands = under.second p u op.Add a b NoMore (suc p + size a) b (under.here (suc p + size a) b);
-      type = λ ty. local_int (type_of b) v.2.0 (inner_second (inner (type_of a)) (inner (type_of b)) IntType IntType (add_of _ _ ty.0.takes)) v.2.1;
+      type = λ ty. local_int (term_type b) v.2.0 (inner_second (inner (term_type a)) (inner (term_type b)) IntType IntType (add_of _ _ ty.0.takes)) v.2.1;
     }))
 in_sum D scope p h q t s (inverted.second u a b s' hd ad) e =
     let v = value_is (suc p) q a t s ad e in
     subst (λ n. InSum D scope p h n t) v.0 (subst (λ z. InSum D scope p h (suc p) z) v.1 (record {
       stands = under.first p u op.Add a (More b NoMore) (suc p) a (under.here (suc p) a);
-      type = λ ty. local_int (type_of a) v.2.0 (inner_first (inner (type_of a)) (inner (type_of b)) IntType IntType (add_of _ _ ty.0.takes)) v.2.1;
+      type = λ ty. local_int (term_type a) v.2.0 (inner_first (inner (term_type a)) (inner (term_type b)) IntType IntType (add_of _ _ ty.0.takes)) v.2.1;
     }))
 
 module _ (P : Program) (is : IsProgram P) (w : WalkTerms) (form : walk_terms (unfolding_of P) ≡ Some w) where
@@ -209,7 +209,7 @@ module _ (analyses : YesAnalyses) (P : Program) (N : Network) (k : ℕ) (is : Is
   whole_typed : HasType P.declared [] 0 (Evolve (TypeLocal IntType) ByRep G.start whole)
   whole_typed = subst (HasType P.declared [] 0) G.main is.typed
 
-  pub whole_types : (type_of G.sum ≡ TypeField IntType) × (type_of w.local ≡ TypeLocal IntType)
+  pub whole_types : (term_type G.sum ≡ TypeField IntType) × (term_type w.local ≡ TypeLocal IntType)
   whole_types = hood_int P.declared ((0, TypeLocal whole_typed.0) ∷ []) at G.type G.sum w.local (whole_typed.3 ∙ sym whole_typed.1) whole_typed.5
 
   pub local_part : Part P A M w.place w.local

@@ -25,6 +25,7 @@ pub record AreCostsFor (U : Unfolding) (N : Network) (w : WalkTerms) (C : CostsV
   pub adds : AddsAre N w.step added
   pub is : C ≡ gathered U.declared.ceiling N start added
 
+-- the costs of a program that has the walk form
 pub record AreCostsOf (U : Unfolding) (N : Network) (C : CostsValue) : Type 0 where
   pub terms : WalkTerms
   pub form : walk_terms U ≡ Some terms

@@ -6,7 +6,7 @@ use Rattle.std.specs.declared.result.Result.TheVariants.{Ok}
 use Rattle.fc_values.specs.declared.builtins.Builtin.TheVariants as op
 use Rattle.fc_values.specs.Types.{IntType, ValueType, TypeLocal, TypeField}
 use Rattle.fc_nodes.specs.declared.verdicts.Reason.{Reason}
-use Rattle.fc_nodes.specs.Terms.{NbrLink, ByRep, Term, Plain, Apply, Evolve, type_of, size}
+use Rattle.fc_nodes.specs.Terms.{NbrLink, ByRep, Term, Plain, Apply, Evolve, term_type, size}
 use Rattle.fc_nodes.specs.Program.{Unfolding}
 use Rattle.fc_nodes.specs.Variables.{is_heard}
 use Rattle.fragment_check.specs.declared.kinds.Pattern.{Pattern}
@@ -38,7 +38,7 @@ added_value p s (TypeLocal t) = Some (StepValue p s)
 added_value p s (TypeField t) = None
 
 abbrev pub added_term : ℕ → Term → Option StepTerm
-added_term p s = if is_links s then Some StepWeight else added_value p s (type_of s)
+added_term p s = if is_links s then Some StepWeight else added_value p s (term_type s)
 
 -- what is added to what is heard of the variable x, by two summands of which the first stands at place p
 abbrev pub added_beside : ℕ → ℕ → Option (Term × Term) → Option StepTerm

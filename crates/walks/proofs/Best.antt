@@ -4,7 +4,7 @@ use Rattle.std.specs.List.{All, Contains}
 use Rattle.std.proofs.lemmas.List.Elements.{All-contains, All-head, All-tail, All-nil, All-cons, All-from_get_or, All-get_or, Contains-get_or}
 use Rattle.std.proofs.lemmas.Bool.{eqb-true, eqb-false, leb-true, leb-false}
 use Rattle.fc_values.specs.Fields.{Rises}
-use Rattle.walks.specs.declared.types.Step.{Step}
+use Rattle.walks.specs.declared.types.WalkStep.{WalkStep}
 use Rattle.walks.specs.Walks.{CostsValue, EvidenceValue, StartsAt, IsDevice, StepsAt, WalkCosts, IsLeastCost, LeadsTo, IsBestWalk, alone, onward, IsCosts, values_in, value_in, AreTraced}
 use Rattle.walks.specs.Laws.{ClaimsAreLeast, TracedClaimsHold, OneBestWalk, BestWalksCostLeast, OneTrace, SomeTrace}
 use Rattle.walks.proofs.Goes.{start_most, step_fits, cost_on, cost_alone, least_from}
@@ -14,62 +14,62 @@ use Rattle.walks.proofs.Fixed.{has_here, has_start, final, final_fixed, final_le
 -- ---- the smallest neighbour
 
 -- a step from n makes up the value of d
-abbrev LeadsBy : CostsValue → (ℕ → ℕ) → List Step → ℕ → ℕ → Type 0
+abbrev LeadsBy : CostsValue → (ℕ → ℕ) → List WalkStep → ℕ → ℕ → Type 0
 LeadsBy C f ss d n = (k : ℕ) × Contains ss (record { from = n; to = d; cost = k }) × (min (f n + k) C.ceiling ≡ f d)
 
-abbrev HasSmallest : CostsValue → (ℕ → ℕ) → List Step → ℕ → Type 0
+abbrev HasSmallest : CostsValue → (ℕ → ℕ) → List WalkStep → ℕ → Type 0
 HasSmallest C f ss d = ((n : ℕ) × LeadsBy C f ss d n × ((m : ℕ) → LeadsBy C f ss d m → n ≤ m)) ⊎ ((m : ℕ) → LeadsBy C f ss d m → ⊥)
 
-later : (C : CostsValue) (f : ℕ → ℕ) (s : Step) (ss : List Step) (d n : ℕ) → LeadsBy C f ss d n → LeadsBy C f (s ∷ ss) d n
+later : (C : CostsValue) (f : ℕ → ℕ) (s : WalkStep) (ss : List WalkStep) (d n : ℕ) → LeadsBy C f ss d n → LeadsBy C f (s ∷ ss) d n
 later C f s ss d n h = (h.0, (suc h.1.0, (let l = h.1.1 in omega arith), h.1.2), h.2)
 
 -- a step that leads is the first one or a later one
-sooner : (C : CostsValue) (f : ℕ → ℕ) (s : Step) (ss : List Step) (d n k i : ℕ) → i < length (s ∷ ss)
+sooner : (C : CostsValue) (f : ℕ → ℕ) (s : WalkStep) (ss : List WalkStep) (d n k i : ℕ) → i < length (s ∷ ss)
     → get_or (s ∷ ss) i (record { from = n; to = d; cost = k }) ≡ record { from = n; to = d; cost = k } → min (f n + k) C.ceiling ≡ f d
     → (s ≡ record { from = n; to = d; cost = k }) ⊎ LeadsBy C f ss d n
 sooner C f s ss d n k zero l e g = inl e
 sooner C f s ss d n k (suc i) l e g = inr (k, (i, omega arith, e), g)
 
-skip : (C : CostsValue) (f : ℕ → ℕ) (s : Step) (ss : List Step) (d : ℕ) → (s.to ≡ d → min (f s.from + s.cost) C.ceiling ≡ f d → ⊥)
+skip : (C : CostsValue) (f : ℕ → ℕ) (s : WalkStep) (ss : List WalkStep) (d : ℕ) → (s.to ≡ d → min (f s.from + s.cost) C.ceiling ≡ f d → ⊥)
     → HasSmallest C f ss d → HasSmallest C f (s ∷ ss) d
 skip C f s ss d other (inl h) = inl (
   h.0,
   later C f s ss d h.0 h.1,
   λ m x. elim (sooner C f s ss d m x.0 x.1.0 x.1.1 x.1.2 x.2) [
-    | inl e ↦ absurd (other (ap (λ (t : Step). t.to) e) (ap (λ (t : Step). min (f t.from + t.cost) C.ceiling) e ∙ x.2))
+    | inl e ↦ absurd (other (ap (λ (t : WalkStep). t.to) e) (ap (λ (t : WalkStep). min (f t.from + t.cost) C.ceiling) e ∙ x.2))
     | inr y ↦ h.2 m y
   ],
 )
 skip C f s ss d other (inr h) = inr (λ m x. elim (sooner C f s ss d m x.0 x.1.0 x.1.1 x.1.2 x.2) [
-  | inl e ↦ other (ap (λ (t : Step). t.to) e) (ap (λ (t : Step). min (f t.from + t.cost) C.ceiling) e ∙ x.2)
+  | inl e ↦ other (ap (λ (t : WalkStep). t.to) e) (ap (λ (t : WalkStep). min (f t.from + t.cost) C.ceiling) e ∙ x.2)
   | inr y ↦ h m y
 ])
 
-take_first : (C : CostsValue) (f : ℕ → ℕ) (s : Step) (ss : List Step) (d : ℕ) → s.to ≡ d → min (f s.from + s.cost) C.ceiling ≡ f d
+take_first : (C : CostsValue) (f : ℕ → ℕ) (s : WalkStep) (ss : List WalkStep) (d : ℕ) → s.to ≡ d → min (f s.from + s.cost) C.ceiling ≡ f d
     → ((m : ℕ) → LeadsBy C f ss d m → s.from ≤ m) → HasSmallest C f (s ∷ ss) d
 take_first C f s ss d t g below = inl (
   s.from,
   (s.cost, (0, omega arith, ap (λ m. record { from = s.from; to = m; cost = s.cost }) t), g),
   λ m x.
       elim (sooner C f s ss d m x.0 x.1.0 x.1.1 x.1.2 x.2) [
-        | inl e ↦ let q : s.from ≡ m = ap (λ (u : Step). u.from) e in omega arith
+        | inl e ↦ let q : s.from ≡ m = ap (λ (u : WalkStep). u.from) e in omega arith
         | inr y ↦ below m y
       ],
 )
 
-keep_rest : (C : CostsValue) (f : ℕ → ℕ) (s : Step) (ss : List Step) (d n : ℕ) → n ≤ s.from → LeadsBy C f ss d n
+keep_rest : (C : CostsValue) (f : ℕ → ℕ) (s : WalkStep) (ss : List WalkStep) (d n : ℕ) → n ≤ s.from → LeadsBy C f ss d n
     → ((m : ℕ) → LeadsBy C f ss d m → n ≤ m) → HasSmallest C f (s ∷ ss) d
 keep_rest C f s ss d n l h below = inl (
   n,
   later C f s ss d n h,
   λ m x.
       elim (sooner C f s ss d m x.0 x.1.0 x.1.1 x.1.2 x.2) [
-        | inl e ↦ let q : s.from ≡ m = ap (λ (u : Step). u.from) e in omega arith
+        | inl e ↦ let q : s.from ≡ m = ap (λ (u : WalkStep). u.from) e in omega arith
         | inr y ↦ below m y
       ],
 )
 
-or_first : (C : CostsValue) (f : ℕ → ℕ) (s : Step) (ss : List Step) (d : ℕ) → s.to ≡ d → min (f s.from + s.cost) C.ceiling ≡ f d
+or_first : (C : CostsValue) (f : ℕ → ℕ) (s : WalkStep) (ss : List WalkStep) (d : ℕ) → s.to ≡ d → min (f s.from + s.cost) C.ceiling ≡ f d
     → HasSmallest C f ss d → HasSmallest C f (s ∷ ss) d
 or_first C f s ss d t g (inr h) = take_first C f s ss d t g (λ m y. absurd (h m y))
 or_first C f s ss d t g (inl h) = by_test (nat_le s.from h.0) refl
@@ -78,7 +78,7 @@ or_first C f s ss d t g (inl h) = by_test (nat_le s.from h.0) refl
     by_test true e = let a = leb-true s.from h.0 e in take_first C f s ss d t g (λ m y. let b = h.2 m y in omega arith)
     by_test false e = let a = leb-false s.from h.0 e in keep_rest C f s ss d h.0 (omega arith) h.1 h.2
 
-smallest : (C : CostsValue) (f : ℕ → ℕ) (ss : List Step) (d : ℕ) → HasSmallest C f ss d
+smallest : (C : CostsValue) (f : ℕ → ℕ) (ss : List WalkStep) (d : ℕ) → HasSmallest C f ss d
 smallest C f [] d = inr (λ m h. let l = h.1.1 in absurd (omega arith))
 smallest C f (s ∷ ss) d = by_test (nat_eq s.to d) refl (nat_eq (min (f s.from + s.cost) C.ceiling) (f d)) refl (smallest C f ss d)
   where
@@ -258,7 +258,7 @@ claims_least C es co h = All-from_get_or (λ (e : EvidenceValue). IsLeastCost C 
     let v = value_at C co es h.devices i none l in
     subst (λ x. IsLeastCost C e.device x) v (least_from C (value_in es) co
     (λ d s k. All-contains (λ (d : ℕ × ℕ). value_in es d.0 ≤ d.1) C.start (d, s) h.starts k)
-    (λ n d c k. All-contains (λ (s : Step). value_in es s.to ≤ min (value_in es s.from + s.cost) C.ceiling) C.steps (record { from = n; to = d; cost = c }) h.steps k)
+    (λ n d c k. All-contains (λ (s : WalkStep). value_in es s.to ≤ min (value_in es s.from + s.cost) C.ceiling) C.steps (record { from = n; to = d; cost = c }) h.steps k)
     e.device (e.walk, subst (λ x. WalkCosts C e.walk e.device x) (sym v) w)))
 
 -- the value of a device in a trace
@@ -297,7 +297,7 @@ traced_hold C es co t = record {
       let x = get_or C.start i (0, 0) in
       let st : StartsAt C x.0 x.1 = Contains-get_or C.start i (0, 0) l in
       least_start C co x.0 (value_in es x.0) x.1 (traced_least C co es t x.0 (x.1, st)) st);
-  steps = All-from_get_or (λ (s : Step). value_in es s.to ≤ min (value_in es s.from + s.cost) C.ceiling) C.steps (record { from = 0; to = 0; cost = 0 }) (λ i l.
+  steps = All-from_get_or (λ (s : WalkStep). value_in es s.to ≤ min (value_in es s.from + s.cost) C.ceiling) C.steps (record { from = 0; to = 0; cost = 0 }) (λ i l.
       let s = get_or C.steps i (record { from = 0; to = 0; cost = 0 }) in
       let st : StepsAt C s.from s.to s.cost = Contains-get_or C.steps i (record { from = 0; to = 0; cost = 0 }) l in
       let fits = step_fits C co s.from s.to s.cost st in

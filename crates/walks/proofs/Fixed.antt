@@ -5,7 +5,7 @@ use Rattle.std.proofs.lemmas.List.Elements.{All-head, All-tail}
 use Rattle.std.proofs.lemmas.Bool.{eqb-true, eq-eqb, ltb-true, ltb-false}
 use Rattle.fc_values.specs.Fields.{Rises}
 use Rattle.fc_values.proofs.Rising.{rises_tail, later_above}
-use Rattle.walks.specs.declared.types.Step.{Step}
+use Rattle.walks.specs.declared.types.WalkStep.{WalkStep}
 use Rattle.walks.specs.Walks.{CostsValue, StartsAt, IsDevice, StepsAt, WalkCosts, IsLeastCost, StepFits, IsCosts, has}
 use Rattle.walks.specs.Laws.{IsFixed, FixedValuesAreLeast}
 use Rattle.walks.proofs.Goes.{start_most, step_fits, cost_on, cost_alone, least_from}
@@ -74,7 +74,7 @@ has_start C co d s h = has_here C.start d s h.0 co.rising h.1 h.2
 
 -- ---- rounds: each value is made anew of the start and of the values before
 
-abbrev lowered : CostsValue → (ℕ → ℕ) → ℕ → List Step → ℕ → ℕ
+abbrev lowered : CostsValue → (ℕ → ℕ) → ℕ → List WalkStep → ℕ → ℕ
 lowered C f base [] d = base
 lowered C f base (s ∷ ss) d = cond (nat_eq s.to d) (min (min (f s.from + s.cost) C.ceiling) (lowered C f base ss d)) (lowered C f base ss d)
 
@@ -83,7 +83,7 @@ rounds C zero d = has C.start d
 rounds C (suc k) d = lowered C (rounds C k) (has C.start d) C.steps d
 
 -- with what a step adds, values that are the same below k become the same below k + 1
-lowered_near : (C : CostsValue) (f g : ℕ → ℕ) (k base : ℕ) → ((n : ℕ) → min (f n) k ≡ min (g n) k) → (ss : List Step) → All (StepFits C) ss
+lowered_near : (C : CostsValue) (f g : ℕ → ℕ) (k base : ℕ) → ((n : ℕ) → min (f n) k ≡ min (g n) k) → (ss : List WalkStep) → All (StepFits C) ss
     → (d : ℕ) → min (lowered C f base ss d) (suc k) ≡ min (lowered C g base ss d) (suc k)
 lowered_near C f g k base h [] a d = refl
 lowered_near C f g k base h (s ∷ ss) a d =
@@ -100,7 +100,7 @@ rounds_near : (C : CostsValue) → IsCosts C → (k n : ℕ) → min (rounds C k
 rounds_near C co zero n = omega arith
 rounds_near C co (suc k) n = lowered_near C (rounds C k) (rounds C (suc k)) k (has C.start n) (rounds_near C co k) C.steps co.steps n
 
-lowered_most : (C : CostsValue) (f : ℕ → ℕ) (base : ℕ) (ss : List Step) (d : ℕ) → lowered C f base ss d ≤ base
+lowered_most : (C : CostsValue) (f : ℕ → ℕ) (base : ℕ) (ss : List WalkStep) (d : ℕ) → lowered C f base ss d ≤ base
 lowered_most C f base [] d = omega arith
 lowered_most C f base (s ∷ ss) d = by_test (nat_eq s.to d) (lowered_most C f base ss d)
   where
@@ -109,14 +109,14 @@ lowered_most C f base (s ∷ ss) d = by_test (nat_eq s.to d) (lowered_most C f b
     by_test true u = omega arith
     by_test false u = u
 
-lowered_step : (C : CostsValue) (f : ℕ → ℕ) (base : ℕ) (ss : List Step) (n d k i : ℕ) → i < length ss
+lowered_step : (C : CostsValue) (f : ℕ → ℕ) (base : ℕ) (ss : List WalkStep) (n d k i : ℕ) → i < length ss
     → get_or ss i (record { from = n; to = d; cost = k }) ≡ record { from = n; to = d; cost = k } → lowered C f base ss d ≤ min (f n + k) C.ceiling
 lowered_step C f base [] n d k i l e = absurd (omega arith)
 lowered_step C f base (s ∷ ss) n d k zero l e =
-    let a : s.from ≡ n = ap (λ (t : Step). t.from) e in
-    let b : s.cost ≡ k = ap (λ (t : Step). t.cost) e in
+    let a : s.from ≡ n = ap (λ (t : WalkStep). t.from) e in
+    let b : s.cost ≡ k = ap (λ (t : WalkStep). t.cost) e in
     let g : f s.from ≡ f n = ap f a in
-    rw (eq-eqb s.to d (ap (λ (t : Step). t.to) e)) (omega arith)
+    rw (eq-eqb s.to d (ap (λ (t : WalkStep). t.to) e)) (omega arith)
 lowered_step C f base (s ∷ ss) n d k (suc i) l e = by_test (nat_eq s.to d) (lowered_step C f base ss n d k i (omega arith) e)
   where
     by_test : (q : Bool) → lowered C f base ss d ≤ min (f n + k) C.ceiling
@@ -125,14 +125,14 @@ lowered_step C f base (s ∷ ss) n d k (suc i) l e = by_test (nat_eq s.to d) (lo
     by_test false u = u
 
 -- what a lowered value is made of
-abbrev IsMade : CostsValue → (ℕ → ℕ) → ℕ → List Step → ℕ → ℕ → Type 0
+abbrev IsMade : CostsValue → (ℕ → ℕ) → ℕ → List WalkStep → ℕ → ℕ → Type 0
 IsMade C f base ss d v = (v ≡ base) ⊎ ((n : ℕ) × (k : ℕ) × Contains ss (record { from = n; to = d; cost = k }) × (v ≡ min (f n + k) C.ceiling))
 
-made_later : (C : CostsValue) (f : ℕ → ℕ) (base : ℕ) (s : Step) (ss : List Step) (d v : ℕ) → IsMade C f base ss d v → IsMade C f base (s ∷ ss) d v
+made_later : (C : CostsValue) (f : ℕ → ℕ) (base : ℕ) (s : WalkStep) (ss : List WalkStep) (d v : ℕ) → IsMade C f base ss d v → IsMade C f base (s ∷ ss) d v
 made_later C f base s ss d v (inl e) = inl e
 made_later C f base s ss d v (inr m) = inr (m.0, m.1, (suc m.2.0, (let h = m.2.1 in omega arith), m.2.2), m.3)
 
-lowered_made : (C : CostsValue) (f : ℕ → ℕ) (base : ℕ) (ss : List Step) (d : ℕ) → IsMade C f base ss d (lowered C f base ss d)
+lowered_made : (C : CostsValue) (f : ℕ → ℕ) (base : ℕ) (ss : List WalkStep) (d : ℕ) → IsMade C f base ss d (lowered C f base ss d)
 lowered_made C f base [] d = inl refl
 lowered_made C f base (s ∷ ss) d = by_test (nat_eq s.to d) refl (nat_lt (lowered C f base ss d) (min (f s.from + s.cost) C.ceiling)) refl (made_later C f base s ss d (lowered C f base ss d) (lowered_made C f base ss d))
   where

@@ -7,9 +7,9 @@ use Rattle.std.proofs.lemmas.List.Elements.{All-contains, Contains-get_or, Conta
 use Rattle.fc_values.specs.Fields.{Rises, is_in}
 use Rattle.fc_values.proofs.Rising.{rises_at, rises_tail, later_above}
 use Rattle.topology.specs.declared.types.Device.{Device}
-use Rattle.topology.specs.Networks.{Network, IsNetwork, Lives, device_of, near, numbers}
-use Rattle.topology.specs.Nearby.{near_numbers}
-use Rattle.walks.specs.declared.types.Step.{Step}
+use Rattle.topology.specs.Networks.{Network, IsNetwork, Lives, net_device_of, near, numbers}
+use Rattle.topology.specs.Nearby.{neighbour_numbers}
+use Rattle.walks.specs.declared.types.WalkStep.{WalkStep}
 use Rattle.walks.specs.Walks.{IsDevice, IsBefore, IsCosts}
 use Rattle.walks.specs.Gathering.{AddValue, AddEach, AddWeights, added, step_to, steps_from, gathered, AreOf, AddFits, EachRises}
 use Rattle.walks.proofs.Fixed.{has_here}
@@ -46,18 +46,18 @@ of_pairs xs d h =
     (r.0.1, subst (λ e. Contains xs (e, r.0.1)) r.2 r.1)
 
 module _ (N : Network) (A : AddValue) where
-  pub in_steps : (ds : List ℕ) (s : Step) → Contains (steps_from N A ds) s
+  pub in_steps : (ds : List ℕ) (s : WalkStep) → Contains (steps_from N A ds) s
       → (w : ℕ) × Contains ds s.from × Contains (near N s.from) (s.to, w) × (added A (s.to, w) ≡ s.cost)
   in_steps [] s h = let l = h.1 in absurd (omega arith)
   in_steps (d ∷ ds) s h = elim (Contains-append_cases (map (step_to A d) (near N d)) (steps_from N A ds) s h) [
     | inl g ↦
         let r = in_map (step_to A d) (near N d) s g in
-        let e : d ≡ s.from = ap (λ (t : Step). t.from) r.2 in
-        let f : r.0.0 ≡ s.to = ap (λ (t : Step). t.to) r.2 in (
+        let e : d ≡ s.from = ap (λ (t : WalkStep). t.from) r.2 in
+        let f : r.0.0 ≡ s.to = ap (λ (t : WalkStep). t.to) r.2 in (
           r.0.1,
           subst (λ x. Contains (d ∷ ds) x) e (contains_here d ds),
           subst (λ x. Contains (near N x) (s.to, r.0.1)) e (subst (λ x. Contains (near N d) (x, r.0.1)) f r.1),
-          subst (λ x. added A (x, r.0.1) ≡ s.cost) f (ap (λ (t : Step). t.cost) r.2),
+          subst (λ x. added A (x, r.0.1) ≡ s.cost) f (ap (λ (t : WalkStep). t.cost) r.2),
         )
     | inr g ↦ let r = in_steps ds s g in (r.0, contains_later d ds s.from r.1, r.2, r.3)
   ]
@@ -73,22 +73,22 @@ module _ (N : Network) (A : AddValue) where
 -- ---- order
 
 -- a step before all those of a list
-abbrev BeforeEach : Step → List Step → Type 0
-BeforeEach s xs = (y : Step) → Contains xs y → IsBefore s y
+abbrev BeforeEach : WalkStep → List WalkStep → Type 0
+BeforeEach s xs = (y : WalkStep) → Contains xs y → IsBefore s y
 
-pairs_cons : (x : Step) (xs : List Step) → BeforeEach x xs → AllPairs IsBefore xs → AllPairs IsBefore (x ∷ xs)
+pairs_cons : (x : WalkStep) (xs : List WalkStep) → BeforeEach x xs → AllPairs IsBefore xs → AllPairs IsBefore (x ∷ xs)
 pairs_cons x xs b a zero zero d l m = absurd (omega arith)
 pairs_cons x xs b a zero (suc j) d l m = b (get_or xs j d) (Contains-get_or xs j d (omega arith))
 pairs_cons x xs b a (suc i) zero d l m = absurd (omega arith)
 pairs_cons x xs b a (suc i) (suc j) d l m = a i j d (omega arith) (omega arith)
 
-pairs_tail : (x : Step) (xs : List Step) → AllPairs IsBefore (x ∷ xs) → AllPairs IsBefore xs
+pairs_tail : (x : WalkStep) (xs : List WalkStep) → AllPairs IsBefore (x ∷ xs) → AllPairs IsBefore xs
 pairs_tail x xs a i j d l m = a (suc i) (suc j) d (omega arith) (omega arith)
 
-pairs_head : (x : Step) (xs : List Step) → AllPairs IsBefore (x ∷ xs) → BeforeEach x xs
+pairs_head : (x : WalkStep) (xs : List WalkStep) → AllPairs IsBefore (x ∷ xs) → BeforeEach x xs
 pairs_head x xs a y h = let l = h.1 in subst (λ z. IsBefore x z) h.2 (a zero (suc h.0) y (omega arith) (omega arith))
 
-pairs_append : (xs ys : List Step) → AllPairs IsBefore xs → AllPairs IsBefore ys → ((x y : Step) → Contains xs x → Contains ys y → IsBefore x y) → AllPairs IsBefore (xs ++ ys)
+pairs_append : (xs ys : List WalkStep) → AllPairs IsBefore xs → AllPairs IsBefore ys → ((x y : WalkStep) → Contains xs x → Contains ys y → IsBefore x y) → AllPairs IsBefore (xs ++ ys)
 pairs_append [] ys a b h = b
 pairs_append (x ∷ xs) ys a b h =
     pairs_cons x (xs ++ ys) (λ y g. elim (Contains-append_cases xs ys y g) [
@@ -96,24 +96,24 @@ pairs_append (x ∷ xs) ys a b h =
       | inr k ↦ h x y (contains_here x xs) k
     ]) (pairs_append xs ys (pairs_tail x xs a) b (λ u v g k. h u v (contains_later x xs u g) k))
 
-near_order : (A : AddValue) (d : ℕ) (ns : List (ℕ × ℕ)) → Rises (near_numbers ns) → AllPairs IsBefore (map (step_to A d) ns)
+near_order : (A : AddValue) (d : ℕ) (ns : List (ℕ × ℕ)) → Rises (neighbour_numbers ns) → AllPairs IsBefore (map (step_to A d) ns)
 near_order A d ns r i j s l m =
     let n = length-map ns (step_to A d) in
     let k = length-map ns (λ (x : ℕ × ℕ). x.0) in
     let inside : j < length ns = omega arith in
-    let a = rises_at (near_numbers ns) r i j l (omega arith) in
+    let a = rises_at (neighbour_numbers ns) r i j l (omega arith) in
     let e = get_or-map (step_to A d) ns i (0, 0) s (omega arith) in
     let f = get_or-map (step_to A d) ns j (0, 0) s inside in
     let u = get_or-map (λ (x : ℕ × ℕ). x.0) ns i (0, 0) 0 (omega arith) in
     let v = get_or-map (λ (x : ℕ × ℕ). x.0) ns j (0, 0) 0 inside in
     subst (λ x. IsBefore x (get_or (map (step_to A d) ns) j s)) (sym e) (subst (λ y. IsBefore (step_to A d (get_or ns i (0, 0))) y) (sym f) (inr (refl, omega arith)))
 
-steps_order : (N : Network) (A : AddValue) → ((d : ℕ) → Rises (near_numbers (near N d))) → (ds : List ℕ) → Rises ds → AllPairs IsBefore (steps_from N A ds)
+steps_order : (N : Network) (A : AddValue) → ((d : ℕ) → Rises (neighbour_numbers (near N d))) → (ds : List ℕ) → Rises ds → AllPairs IsBefore (steps_from N A ds)
 steps_order N A near_rises [] r = λ i j d l m. absurd (omega arith)
 steps_order N A near_rises (d ∷ ds) r =
     pairs_append (map (step_to A d) (near N d)) (steps_from N A ds) (near_order A d (near N d) (near_rises d)) (steps_order N A near_rises ds (rises_tail d ds r)) (λ x y g h.
     let u = in_map (step_to A d) (near N d) x g in
-    let e : d ≡ x.from = ap (λ (t : Step). t.from) u.2 in
+    let e : d ≡ x.from = ap (λ (t : WalkStep). t.from) u.2 in
     let v = (in_steps N A ds y h).1 in
     let b = later_above d ds r v.0 v.1 in
     let f : get_or ds v.0 0 ≡ y.from = number_default ds v.0 0 y.from v.1 ∙ v.2 in
@@ -128,7 +128,7 @@ steps_order N A near_rises (d ∷ ds) r =
 
 -- what is known of a network's neighbours
 pub record AreMutual (N : Network) : Type 0 where
-  pub rising : (d : ℕ) → Rises (near_numbers (near N d))
+  pub rising : (d : ℕ) → Rises (neighbour_numbers (near N d))
   pub there : (d e w : ℕ) → Contains (near N d) (e, w) → Lives N e
   pub both : (d e w : ℕ) → Contains (near N d) (e, w) → Contains (near N e) (d, w)
 
@@ -173,14 +173,14 @@ each_rises ceiling N AddWeights r f = tt
 
 -- ---- device by device
 
-pub more_steps : (N : Network) (A : AddValue) (ds : List Device) (i : ℕ) (x : Device) (all old new : List Step) → i < length ds → x ≡ get_or ds i x
-    → all ≡ old ++ steps_from N A (numbers (map device_of (drop i ds))) → new ≡ old ++ map (step_to A x.id) (near N x.id)
-    → all ≡ new ++ steps_from N A (numbers (map device_of (drop (i + 1) ds)))
+pub more_steps : (N : Network) (A : AddValue) (ds : List Device) (i : ℕ) (x : Device) (all old new : List WalkStep) → i < length ds → x ≡ get_or ds i x
+    → all ≡ old ++ steps_from N A (numbers (map net_device_of (drop i ds))) → new ≡ old ++ map (step_to A x.id) (near N x.id)
+    → all ≡ new ++ steps_from N A (numbers (map net_device_of (drop (i + 1) ds)))
 more_steps N A ds i x all old new l e q p =
-    let rest = steps_from N A (numbers (map device_of (drop (i + 1) ds))) in
+    let rest = steps_from N A (numbers (map net_device_of (drop (i + 1) ds))) in
     let here = map (step_to A x.id) (near N x.id) in
     let d : drop i ds ≡ x ∷ drop (i + 1) ds = drop_more ds i x l ∙ ap (λ y. y ∷ drop (i + 1) ds) (sym e) in
-    q ∙ ap (λ ys. old ++ steps_from N A (numbers (map device_of ys))) d ∙ sym (append_assoc old here rest) ∙ ap (λ ys. ys ++ rest) (sym p)
+    q ∙ ap (λ ys. old ++ steps_from N A (numbers (map net_device_of ys))) d ∙ sym (append_assoc old here rest) ∙ ap (λ ys. ys ++ rest) (sym p)
 
 none_left : (n : ℕ) (ds : List Device) → length ds ≤ n → drop n ds ≡ []
 none_left zero [] l = refl
@@ -188,10 +188,10 @@ none_left zero (d ∷ ds) l = absurd (omega arith)
 none_left (suc n) [] l = refl
 none_left (suc n) (d ∷ ds) l = none_left n ds (omega arith)
 
-nothing_behind : (xs : List Step) → xs ++ [] ≡ xs
+nothing_behind : (xs : List WalkStep) → xs ++ [] ≡ xs
 nothing_behind [] = refl
 nothing_behind (x ∷ xs) = ap (λ ys. x ∷ ys) (nothing_behind xs)
 
-pub all_steps : (N : Network) (A : AddValue) (ds : List Device) (i : ℕ) (all old : List Step) → length ds ≤ i
-    → all ≡ old ++ steps_from N A (numbers (map device_of (drop i ds))) → old ≡ all
-all_steps N A ds i all old l q = sym (q ∙ ap (λ ys. old ++ steps_from N A (numbers (map device_of ys))) (none_left i ds l) ∙ nothing_behind old)
+pub all_steps : (N : Network) (A : AddValue) (ds : List Device) (i : ℕ) (all old : List WalkStep) → length ds ≤ i
+    → all ≡ old ++ steps_from N A (numbers (map net_device_of (drop i ds))) → old ≡ all
+all_steps N A ds i all old l q = sym (q ∙ ap (λ ys. old ++ steps_from N A (numbers (map net_device_of ys))) (none_left i ds l) ∙ nothing_behind old)

@@ -3,7 +3,7 @@ use Rattle.std.proofs.Common.{◌≡◌, ℕ, ◌+◌, ◌≤◌, inl, inr, min,
 use Rattle.std.proofs.lemmas.Bool.{ltb-true, ltb-false}
 use Rattle.std.proofs.lemmas.List.{get_or_default}
 use Rattle.std.proofs.lemmas.List.Elements.{All-contains}
-use Rattle.walks.specs.declared.types.Step.{Step}
+use Rattle.walks.specs.declared.types.WalkStep.{WalkStep}
 use Rattle.walks.specs.Walks.{CostsValue, StartsAt, StepsAt, Goes, IsWalk, WalkCosts, IsLeastCost, StepFits, IsCosts, IsBefore}
 
 -- what is known of a start and of a step
@@ -60,32 +60,32 @@ least_from C f co be st d w = record { walk = w; least = λ x u h. walk_above C 
 pub steps_one : (C : CostsValue) → IsCosts C → (n d j k : ℕ) → StepsAt C n d j → StepsAt C n d k → j ≡ k
 steps_one C co n d j k g h = by_order (nat_lt g.0 h.0) refl (nat_lt h.0 g.0) refl
   where
-    apart : (a b : Step) → a.from ≡ n → a.to ≡ d → b.from ≡ n → b.to ≡ d → IsBefore a b → ⊥
+    apart : (a b : WalkStep) → a.from ≡ n → a.to ≡ d → b.from ≡ n → b.to ≡ d → IsBefore a b → ⊥
     apart a b e f u v (inl l) = absurd (omega arith)
     apart a b e f u v (inr l) = let m = l.1 in absurd (omega arith)
 
     by_order : (p : Bool) → nat_lt g.0 h.0 ≡ p → (q : Bool) → nat_lt h.0 g.0 ≡ q → j ≡ k
     by_order true e q f =
-        let x : Step = record { from = n; to = d; cost = j } in
-        let y : Step = record { from = n; to = d; cost = k } in
+        let x : WalkStep = record { from = n; to = d; cost = j } in
+        let y : WalkStep = record { from = n; to = d; cost = k } in
         let gx : get_or C.steps g.0 x ≡ x = g.2 in
         let hy : get_or C.steps h.0 x ≡ y = get_or_default C.steps h.0 x y h.1 ∙ h.2 in
-        absurd (apart (get_or C.steps g.0 x) (get_or C.steps h.0 x) (ap (λ (t : Step). t.from) gx) (ap (λ (t : Step). t.to) gx) (ap (λ (t : Step). t.from) hy) (ap (λ (t : Step). t.to) hy)
+        absurd (apart (get_or C.steps g.0 x) (get_or C.steps h.0 x) (ap (λ (t : WalkStep). t.from) gx) (ap (λ (t : WalkStep). t.to) gx) (ap (λ (t : WalkStep). t.from) hy) (ap (λ (t : WalkStep). t.to) hy)
         (co.order g.0 h.0 x (ltb-true g.0 h.0 e) h.1))
     by_order false e true f =
-        let x : Step = record { from = n; to = d; cost = j } in
-        let y : Step = record { from = n; to = d; cost = k } in
+        let x : WalkStep = record { from = n; to = d; cost = j } in
+        let y : WalkStep = record { from = n; to = d; cost = k } in
         let gx : get_or C.steps g.0 x ≡ x = g.2 in
         let hy : get_or C.steps h.0 x ≡ y = get_or_default C.steps h.0 x y h.1 ∙ h.2 in
-        absurd (apart (get_or C.steps h.0 x) (get_or C.steps g.0 x) (ap (λ (t : Step). t.from) hy) (ap (λ (t : Step). t.to) hy) (ap (λ (t : Step). t.from) gx) (ap (λ (t : Step). t.to) gx)
+        absurd (apart (get_or C.steps h.0 x) (get_or C.steps g.0 x) (ap (λ (t : WalkStep). t.from) hy) (ap (λ (t : WalkStep). t.to) hy) (ap (λ (t : WalkStep). t.from) gx) (ap (λ (t : WalkStep). t.to) gx)
         (co.order h.0 g.0 x (ltb-true h.0 g.0 f) g.1))
     by_order false e false f =
         let a = ltb-false g.0 h.0 e in
         let b = ltb-false h.0 g.0 f in
         let i : g.0 ≡ h.0 = omega arith in
-        let x : Step = record { from = n; to = d; cost = j } in
-        let y : Step = record { from = n; to = d; cost = k } in
-        ap (λ (t : Step). t.cost) (sym g.2 ∙ ap (λ m. get_or C.steps m x) i ∙ get_or_default C.steps h.0 x y h.1 ∙ h.2)
+        let x : WalkStep = record { from = n; to = d; cost = j } in
+        let y : WalkStep = record { from = n; to = d; cost = k } in
+        ap (λ (t : WalkStep). t.cost) (sym g.2 ∙ ap (λ m. get_or C.steps m x) i ∙ get_or_default C.steps h.0 x y h.1 ∙ h.2)
 
 pub goes_one : (C : CostsValue) → IsCosts C → (d c : ℕ) (w : List ℕ) (e t f u : ℕ) → Goes C d c w e t → Goes C d c w f u → (e ≡ f) × (t ≡ u)
 goes_one C co d c [] e t f u g h = (sym g.0 ∙ h.0, sym g.1 ∙ h.1)

@@ -4,7 +4,7 @@ use Rattle.std.specs.List.{All, AllPairs, AllWithin, Contains}
 use Rattle.std.proofs.lemmas.Bool.{ltb-true, ltb-false}
 use Rattle.std.proofs.lemmas.List.{get_or_default, map-append, map_more, reverse-append}
 use Rattle.std.proofs.lemmas.List.Elements.{All-map}
-use Rattle.walks.specs.declared.types.Step.{Step}
+use Rattle.walks.specs.declared.types.WalkStep.{WalkStep}
 use Rattle.walks.specs.declared.types.Evidence.{Evidence}
 use Rattle.walks.specs.Walks.{CostsValue, EvidenceValue, evidence_of, claim_of, AreTraced, StartsAt, IsDevice, StepsAt, IsLeastCost, LeadsTo, IsBestWalk, alone, onward, IsBefore, IsCosts}
 use Rattle.walks.specs.Tables.{AreLeast, IsParent, itself, neighbour}
@@ -48,19 +48,19 @@ module _ (C : CostsValue) (co : IsCosts C) where
 
   -- ---- the smallest neighbour among the steps from a device, rising
 
-  leads_at : (part : List Step) (d v : ℕ) → ((to cost : ℕ) → StepsAt C d to cost → Contains part (record { from = d; to = to; cost = cost }))
-      → (m : ℕ) → LeadsTo C m d v → (k : ℕ) × (k < length part) × ((s : Step) → (get_or part k s).to ≡ m)
+  leads_at : (part : List WalkStep) (d v : ℕ) → ((to cost : ℕ) → StepsAt C d to cost → Contains part (record { from = d; to = to; cost = cost }))
+      → (m : ℕ) → LeadsTo C m d v → (k : ℕ) × (k < length part) × ((s : WalkStep) → (get_or part k s).to ≡ m)
   leads_at part d v all m le =
       let j = co.both_ways m d le.cost le.step in
       let h = all m j.0 j.1 in
-      (h.0, h.1, λ s. ap (λ (t : Step). t.to) (get_or_default part h.0 s (record { from = d; to = m; cost = j.0 }) h.1 ∙ h.2))
+      (h.0, h.1, λ s. ap (λ (t : WalkStep). t.to) (get_or_default part h.0 s (record { from = d; to = m; cost = j.0 }) h.1 ∙ h.2))
 
-  pub smallest_first : (part : List Step) (d v i : ℕ) (none : Step) → ((to cost : ℕ) → StepsAt C d to cost → Contains part (record { from = d; to = to; cost = cost }))
-      → AllPairs IsBefore part → All (λ (s : Step). s.from ≡ d) part → i < length part → AllWithin (λ (s : Step). LeadsTo C s.to d v → ⊥) part 0 i
+  pub smallest_first : (part : List WalkStep) (d v i : ℕ) (none : WalkStep) → ((to cost : ℕ) → StepsAt C d to cost → Contains part (record { from = d; to = to; cost = cost }))
+      → AllPairs IsBefore part → All (λ (s : WalkStep). s.from ≡ d) part → i < length part → AllWithin (λ (s : WalkStep). LeadsTo C s.to d v → ⊥) part 0 i
       → (m : ℕ) → LeadsTo C m d v → (get_or part i none).to ≤ m
   smallest_first part d v i none all order from l other m le = at (leads_at part d v all m le)
     where
-      at : (k : ℕ) × (k < length part) × ((s : Step) → (get_or part k s).to ≡ m) → (get_or part i none).to ≤ m
+      at : (k : ℕ) × (k < length part) × ((s : WalkStep) → (get_or part k s).to ≡ m) → (get_or part i none).to ≤ m
       at x = by_place (nat_lt x.0 i) refl (nat_lt i x.0) refl
         where
           by_place : (p : Bool) → nat_lt x.0 i ≡ p → (q : Bool) → nat_lt i x.0 ≡ q → (get_or part i none).to ≤ m
@@ -81,10 +81,10 @@ module _ (C : CostsValue) (co : IsCosts C) where
               let t : (get_or part i none).to ≡ m = ap (λ k. (get_or part k none).to) (sym q) ∙ x.2 none in
               omega arith
 
-  pub none_leads_to : (part : List Step) (d v i : ℕ) → ((to cost : ℕ) → StepsAt C d to cost → Contains part (record { from = d; to = to; cost = cost }))
-      → length part ≤ i → AllWithin (λ (s : Step). LeadsTo C s.to d v → ⊥) part 0 i → (m : ℕ) → LeadsTo C m d v → ⊥
+  pub none_leads_to : (part : List WalkStep) (d v i : ℕ) → ((to cost : ℕ) → StepsAt C d to cost → Contains part (record { from = d; to = to; cost = cost }))
+      → length part ≤ i → AllWithin (λ (s : WalkStep). LeadsTo C s.to d v → ⊥) part 0 i → (m : ℕ) → LeadsTo C m d v → ⊥
   none_leads_to part d v i all l other m le =
-      let none : Step = record { from = 0; to = 0; cost = 0 } in
+      let none : WalkStep = record { from = 0; to = 0; cost = 0 } in
       let x = leads_at part d v all m le in
       let k = x.1 in
       other x.0 none (omega arith) (omega arith) (subst (λ y. LeadsTo C y d v) (sym (x.2 none)) le)

@@ -8,7 +8,7 @@ use Rattle.std.proofs.lemmas.List.{drop_more, get_or_default}
 use Rattle.std.proofs.lemmas.List.Elements.{All-contains, All-cons, All-tail, All-head, Contains-get_or}
 use Rattle.std.proofs.lemmas.List.Sorted.{All-permutation, Contains-permutation, length_permutation}
 use Rattle.std.proofs.lemmas.List.Sums.{sum_by-set}
-use Rattle.walks.specs.declared.types.Step.{Step}
+use Rattle.walks.specs.declared.types.WalkStep.{WalkStep}
 use Rattle.walks.specs.Walks.{CostsValue, StartsAt, IsDevice, StepsAt, WalkCosts, StepFits, IsCosts}
 use Rattle.walks.specs.Tables.{Queue, AreCosts, IsSettled, Waits, IsCovered, AreDevices, left, IsTaken, settled, lowered, AreLeast}
 use Rattle.walks.proofs.Goes.{start_most, cost_on, cost_alone, least_from}
@@ -28,7 +28,7 @@ contains_here x xs = (0, omega arith, refl)
 
 -- ---- one step
 
-module _ (C : CostsValue) (co : IsCosts C) (s : Step) (in_steps : Contains C.steps s) (vs : List ℕ) (costs : AreCosts C vs) where
+module _ (C : CostsValue) (co : IsCosts C) (s : WalkStep) (in_steps : Contains C.steps s) (vs : List ℕ) (costs : AreCosts C vs) where
   pub fits : StepFits C s
   fits = All-contains (StepFits C) C.steps s co.steps in_steps
 
@@ -84,7 +84,7 @@ module _ (C : CostsValue) (co : IsCosts C) (s : Step) (in_steps : Contains C.ste
       (subst (λ x. Contains ws (record { 0 = (x, s.to) })) (sym (get_or-set_same vs s.to v 0 to_within))
       (Contains-permutation (record { 0 = (v, s.to) } ∷ hs) ws (record { 0 = (v, s.to) }) p (contains_here (record { 0 = (v, s.to) }) hs)))
 
-  lowered_settled : (v : ℕ) → v < get_or vs s.to 0 → (t : Step) → t.from ≢ s.to → IsSettled C vs t → IsSettled C (set vs s.to v) t
+  lowered_settled : (v : ℕ) → v < get_or vs s.to 0 → (t : WalkStep) → t.from ≢ s.to → IsSettled C vs t → IsSettled C (set vs s.to v) t
   lowered_settled v l t n h =
       let a = get_or-set_other vs s.to t.from v 0 n in
       by_test (nat_eq t.to s.to) refl a
@@ -98,7 +98,7 @@ module _ (C : CostsValue) (co : IsCosts C) (s : Step) (in_steps : Contains C.ste
       by_test false e a = let b = get_or-set_other vs s.to t.to v 0 (eqb-false t.to s.to e) in omega arith
 
   lowered_covered : (v : ℕ) (hs ws : Queue) → v < get_or vs s.to 0 → IsPermutation (record { 0 = (v, s.to) } ∷ hs) ws
-      → (t : Step) → IsCovered C vs hs t → (q : Bool) → nat_eq t.from s.to ≡ q → IsCovered C (set vs s.to v) ws t
+      → (t : WalkStep) → IsCovered C vs hs t → (q : Bool) → nat_eq t.from s.to ≡ q → IsCovered C (set vs s.to v) ws t
   lowered_covered v hs ws l p t h true e = inr (lowered_waits v hs ws t.from p (eqb-true t.from s.to e))
   lowered_covered v hs ws l p t (inl h) false e = inl (lowered_settled v l t (eqb-false t.from s.to e) h)
   lowered_covered v hs ws l p t (inr h) false e =
@@ -106,7 +106,7 @@ module _ (C : CostsValue) (co : IsCosts C) (s : Step) (in_steps : Contains C.ste
       (Contains-permutation (record { 0 = (v, s.to) } ∷ hs) ws (record { 0 = (get_or vs t.from 0, t.from) }) p
       (contains_later (record { 0 = (v, s.to) }) hs (record { 0 = (get_or vs t.from 0, t.from) }) h)))
 
-  pub taken_covered : (hs : Queue) (us : List ℕ) (ws : Queue) → IsTaken C s vs hs us ws → (t : Step) → IsCovered C vs hs t → IsCovered C us ws t
+  pub taken_covered : (hs : Queue) (us : List ℕ) (ws : Queue) → IsTaken C s vs hs us ws → (t : WalkStep) → IsCovered C vs hs t → IsCovered C us ws t
   taken_covered hs us ws (settled i e f) t h = subst (λ xs. IsCovered C xs ws t) (sym e) (subst (λ xs. IsCovered C vs xs t) (sym f) h)
   taken_covered hs us ws (lowered v e l q p) t h =
       subst (λ xs. IsCovered C xs ws t) (sym q) (lowered_covered v hs ws l p t h (nat_eq t.from s.to) refl)
@@ -135,44 +135,44 @@ module _ (C : CostsValue) (co : IsCosts C) (s : Step) (in_steps : Contains C.ste
 -- ---- the steps from a device, one after another
 
 -- what is covered while the steps of a part are taken from the front
-abbrev pub PartCovered : CostsValue → List ℕ → Queue → List Step → Type 0
-PartCovered C vs hs part = All (λ (t : Step). IsCovered C vs hs t ⊎ Contains part t) C.steps
+abbrev pub PartCovered : CostsValue → List ℕ → Queue → List WalkStep → Type 0
+PartCovered C vs hs part = All (λ (t : WalkStep). IsCovered C vs hs t ⊎ Contains part t) C.steps
 
-pub part_begins : (C : CostsValue) (vs : List ℕ) (hs : Queue) (part : List Step) (d : ℕ)
+pub part_begins : (C : CostsValue) (vs : List ℕ) (hs : Queue) (part : List WalkStep) (d : ℕ)
     → ((to cost : ℕ) → StepsAt C d to cost → Contains part (record { from = d; to = to; cost = cost }))
-    → All (λ (t : Step). IsCovered C vs hs t ⊎ (t.from ≡ d)) C.steps → PartCovered C vs hs part
+    → All (λ (t : WalkStep). IsCovered C vs hs t ⊎ (t.from ≡ d)) C.steps → PartCovered C vs hs part
 part_begins C vs hs part d all h k t l = at (get_or C.steps k t) (k, l, same C.steps k t l) (h k t l)
   where
-    same : (xs : List Step) (i : ℕ) (x : Step) → i < length xs → get_or xs i (get_or xs i x) ≡ get_or xs i x
+    same : (xs : List WalkStep) (i : ℕ) (x : WalkStep) → i < length xs → get_or xs i (get_or xs i x) ≡ get_or xs i x
     same [] i x m = absurd (omega arith)
     same (y ∷ xs) zero x m = refl
     same (y ∷ xs) (suc i) x m = same xs i x (omega arith)
 
-    at : (s : Step) → Contains C.steps s → IsCovered C vs hs s ⊎ (s.from ≡ d) → IsCovered C vs hs s ⊎ Contains part s
+    at : (s : WalkStep) → Contains C.steps s → IsCovered C vs hs s ⊎ (s.from ≡ d) → IsCovered C vs hs s ⊎ Contains part s
     at s m (inl c) = inl c
     at s m (inr e) =
         inr (subst (λ x. Contains part (record { from = x; to = s.to; cost = s.cost })) (sym e)
         (all s.to s.cost (subst (λ x. Contains C.steps (record { from = x; to = s.to; cost = s.cost })) e m)))
 
-pub part_ends : (C : CostsValue) (vs : List ℕ) (hs : Queue) (part : List Step) (i : ℕ) → length part ≤ i → PartCovered C vs hs (drop i part)
+pub part_ends : (C : CostsValue) (vs : List ℕ) (hs : Queue) (part : List WalkStep) (i : ℕ) → length part ≤ i → PartCovered C vs hs (drop i part)
     → All (IsCovered C vs hs) C.steps
 part_ends C vs hs part i l h k t m = at (get_or C.steps k t) (h k t m)
   where
-    none : (n : ℕ) (xs : List Step) → length xs ≤ n → length (drop n xs) ≡ 0
+    none : (n : ℕ) (xs : List WalkStep) → length xs ≤ n → length (drop n xs) ≡ 0
     none zero [] q = refl
     none zero (x ∷ xs) q = absurd (omega arith)
     none (suc n) [] q = refl
     none (suc n) (x ∷ xs) q = none n xs (omega arith)
 
-    at : (s : Step) → IsCovered C vs hs s ⊎ Contains (drop i part) s → IsCovered C vs hs s
+    at : (s : WalkStep) → IsCovered C vs hs s ⊎ Contains (drop i part) s → IsCovered C vs hs s
     at s (inl c) = c
     at s (inr c) = let a = c.1 in let b = none i part l in absurd (omega arith)
 
-pub part_more : (C : CostsValue) (vs : List ℕ) (hs : Queue) (us : List ℕ) (ws : Queue) (part : List Step) (i : ℕ) (s none : Step) → i < length part → get_or part i none ≡ s
-    → ((t : Step) → IsCovered C vs hs t → IsCovered C us ws t) → IsCovered C us ws s → PartCovered C vs hs (drop i part) → PartCovered C us ws (drop (i + 1) part)
+pub part_more : (C : CostsValue) (vs : List ℕ) (hs : Queue) (us : List ℕ) (ws : Queue) (part : List WalkStep) (i : ℕ) (s none : WalkStep) → i < length part → get_or part i none ≡ s
+    → ((t : WalkStep) → IsCovered C vs hs t → IsCovered C us ws t) → IsCovered C us ws s → PartCovered C vs hs (drop i part) → PartCovered C us ws (drop (i + 1) part)
 part_more C vs hs us ws part i s none l e keep itself h k t m = at (get_or C.steps k t) (h k t m)
   where
-    at : (x : Step) → IsCovered C vs hs x ⊎ Contains (drop i part) x → IsCovered C us ws x ⊎ Contains (drop (i + 1) part) x
+    at : (x : WalkStep) → IsCovered C vs hs x ⊎ Contains (drop i part) x → IsCovered C us ws x ⊎ Contains (drop (i + 1) part) x
     at x (inl c) = inl (keep x c)
     at x (inr c) =
         elim (contains_first (get_or part i none) (drop (i + 1) part) x (subst (λ xs. Contains xs x) (drop_more part i none l) c)) [
@@ -183,10 +183,10 @@ part_more C vs hs us ws part i s none l e keep itself h k t m = at (get_or C.ste
 -- ---- a device that waits no longer
 
 pub popped : (C : CostsValue) (vs : List ℕ) (hs ws : Queue) (v d : ℕ) → IsPermutation hs (record { 0 = (v, d) } ∷ ws)
-    → All (IsCovered C vs hs) C.steps → All (λ (t : Step). IsCovered C vs ws t ⊎ (t.from ≡ d)) C.steps
+    → All (IsCovered C vs hs) C.steps → All (λ (t : WalkStep). IsCovered C vs ws t ⊎ (t.from ≡ d)) C.steps
 popped C vs hs ws v d p h k t m = at (get_or C.steps k t) (h k t m)
   where
-    at : (x : Step) → IsCovered C vs hs x → IsCovered C vs ws x ⊎ (x.from ≡ d)
+    at : (x : WalkStep) → IsCovered C vs hs x → IsCovered C vs ws x ⊎ (x.from ≡ d)
     at x (inl c) = inl (inl c)
     at x (inr c) =
         elim (contains_first (record { 0 = (v, d) }) ws (record { 0 = (get_or vs x.from 0, x.from) })
@@ -199,7 +199,7 @@ pub popped_stale : (C : CostsValue) (vs : List ℕ) (hs ws : Queue) (v d : ℕ) 
     → (get_or vs d 0 ≡ v → ⊥) → All (IsCovered C vs hs) C.steps → All (IsCovered C vs ws) C.steps
 popped_stale C vs hs ws v d p stale h k t m = at (get_or C.steps k t) (h k t m)
   where
-    at : (x : Step) → IsCovered C vs hs x → IsCovered C vs ws x
+    at : (x : WalkStep) → IsCovered C vs hs x → IsCovered C vs ws x
     at x (inl c) = inl c
     at x (inr c) =
         elim (contains_first (record { 0 = (v, d) }) ws (record { 0 = (get_or vs x.from 0, x.from) })
@@ -274,5 +274,5 @@ devices_more C xs hs ws i q l p a =
     (All-cons (λ (r : Reverse (ℕ × ℕ)). IsDevice C r.0.1) (record { 0 = ((get_or xs i (0, 0)).1, (get_or xs i (0, 0)).0) }) hs
     ((get_or xs i (0, 0)).1, subst (λ ys. Contains ys (get_or xs i (0, 0))) q (Contains-get_or xs i (0, 0) l)) a)
 
-pub fits_of : (C : CostsValue) → IsCosts C → (s : Step) → Contains C.steps s → StepFits C s
+pub fits_of : (C : CostsValue) → IsCosts C → (s : WalkStep) → Contains C.steps s → StepFits C s
 fits_of C co s h = All-contains (StepFits C) C.steps s co.steps h

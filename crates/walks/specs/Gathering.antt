@@ -3,7 +3,7 @@ use Rattle.std.specs.Prelude.{ℕ, ◌≡◌, ◌≤◌, List, [], ◌∷◌, �
 use Rattle.std.specs.List.{All, Contains}
 use Rattle.fc_values.specs.Fields.{Rises}
 use Rattle.topology.specs.Networks.{Network, near, numbers}
-use Rattle.walks.specs.declared.types.Step.{Step}
+use Rattle.walks.specs.declared.types.WalkStep.{WalkStep}
 use Rattle.walks.specs.declared.types.Add.{Add}
 use Rattle.walks.specs.declared.types.Add.TheVariants as add
 use Rattle.walks.specs.Walks.{CostsValue, has}
@@ -22,11 +22,11 @@ abbrev pub added : AddValue → ℕ × ℕ → ℕ
 added (AddEach xs) n = has xs n.0
 added AddWeights n = n.1
 
-abbrev pub step_to : AddValue → ℕ → ℕ × ℕ → Step
+abbrev pub step_to : AddValue → ℕ → ℕ × ℕ → WalkStep
 step_to A d n = record { from = d; to = n.0; cost = added A n }
 
 -- the steps from devices to their neighbours
-abbrev pub steps_from : Network → AddValue → List ℕ → List Step
+abbrev pub steps_from : Network → AddValue → List ℕ → List WalkStep
 steps_from N A [] = []
 steps_from N A (d ∷ ds) = map (step_to A d) (near N d) ++ steps_from N A ds
 

@@ -3,7 +3,7 @@ use Rattle.std.specs.Prelude.{◌≡◌, ◌≢◌, ◌≤◌, ◌<◌, ◌+◌,
 use Rattle.std.specs.Prelude.{ℕ, min, sum, slice_index, slice_set, length, IsPermutation, List, ◌∷◌}
 use Rattle.std.specs.List.{All, Contains}
 use Rattle.std.specs.declared.cmp.Reverse.{Reverse}
-use Rattle.walks.specs.declared.types.Step.{Step}
+use Rattle.walks.specs.declared.types.WalkStep.{WalkStep}
 use Rattle.walks.specs.Walks.{CostsValue, StartsAt, IsDevice, WalkCosts, IsLeastCost, LeadsTo}
 
 -- each device has the cost of a walk to it, at most its start
@@ -13,7 +13,7 @@ pub record AreCosts (C : CostsValue) (values : List ℕ) : Type 0 where
   pub start : (d s : ℕ) → StartsAt C d s → slice_index values d ≤ s
 
 -- no step lowers the value of the device to which it leads
-abbrev pub IsSettled : CostsValue → List ℕ → Step → Type 0
+abbrev pub IsSettled : CostsValue → List ℕ → WalkStep → Type 0
 IsSettled C values s = slice_index values s.to ≤ min (slice_index values s.from + s.cost) C.ceiling
 
 -- each device has its start
@@ -33,7 +33,7 @@ abbrev pub Waits : List ℕ → Queue → ℕ → Type 0
 Waits values waiting d = Contains waiting (record { 0 = (slice_index values d, d) })
 
 -- each step is settled, or its device waits
-abbrev pub IsCovered : CostsValue → List ℕ → Queue → Step → Type 0
+abbrev pub IsCovered : CostsValue → List ℕ → Queue → WalkStep → Type 0
 IsCovered C values waiting s = IsSettled C values s ⊎ Waits values waiting s.from
 
 abbrev pub AreCovered : CostsValue → List ℕ → Queue → Type 0
@@ -41,7 +41,7 @@ AreCovered C values waiting = All (IsCovered C values waiting) C.steps
 
 -- so is each, but for the steps from one device
 abbrev pub AreCoveredBut : CostsValue → List ℕ → Queue → ℕ → Type 0
-AreCoveredBut C values waiting d = All (λ (s : Step). IsCovered C values waiting s ⊎ (s.from ≡ d)) C.steps
+AreCoveredBut C values waiting d = All (λ (s : WalkStep). IsCovered C values waiting s ⊎ (s.from ≡ d)) C.steps
 
 abbrev pub AreDevices : CostsValue → Queue → Type 0
 AreDevices C waiting = All (λ (r : Reverse (ℕ × ℕ)). IsDevice C r.0.1) waiting
@@ -52,7 +52,7 @@ left values waiting = 2 * sum values + length waiting
 
 -- what a step makes of the values and of the devices that wait: it lowers the value of the device to which it leads,
 -- which then waits, or it is settled
-pub data IsTaken (C : CostsValue) (s : Step) (values : List ℕ) (waiting : Queue) (after : List ℕ) (wait : Queue)
+pub data IsTaken (C : CostsValue) (s : WalkStep) (values : List ℕ) (waiting : Queue) (after : List ℕ) (wait : Queue)
     : Type 0 where
   settled : IsSettled C values s → after ≡ values → wait ≡ waiting → IsTaken C s values waiting after wait
   lowered : (v : ℕ) → v ≡ min (slice_index values s.from + s.cost) C.ceiling → v < slice_index values s.to

@@ -2,7 +2,7 @@
 use Rattle.std.specs.Prelude.{ℕ, ◌≡◌, ◌≢◌, ◌≤◌, ◌<◌, ◌+◌, ◌⊎◌, min, List, [], ◌∷◌, ◌++◌, map, nat_eq, if◌then◌else◌}
 use Rattle.std.specs.List.{All, AllPairs, Contains}
 use Rattle.fc_values.specs.Fields.{Rises}
-use Rattle.walks.specs.declared.types.Step.{Step}
+use Rattle.walks.specs.declared.types.WalkStep.{WalkStep}
 use Rattle.walks.specs.declared.types.Costs.{Costs}
 use Rattle.walks.specs.declared.types.Evidence.{Evidence}
 
@@ -10,7 +10,7 @@ use Rattle.walks.specs.declared.types.Evidence.{Evidence}
 pub record CostsValue : Type 0 where
   pub ceiling : ℕ
   pub start : List (ℕ × ℕ)
-  pub steps : List Step
+  pub steps : List WalkStep
 
 abbrev pub costs_of : Costs → CostsValue
 costs_of c = record { ceiling = c.ceiling; start = c.start.items; steps = c.steps.items }
@@ -84,11 +84,11 @@ pub data IsBestWalk (C : CostsValue) : ℕ → List ℕ → Type 0 where
 -- ---- the costs of a network
 
 -- a step comes before another: by the device from which it leads, then by the other
-abbrev pub IsBefore : Step → Step → Type 0
+abbrev pub IsBefore : WalkStep → WalkStep → Type 0
 IsBefore s t = (s.from < t.from) ⊎ ((s.from ≡ t.from) × (s.to < t.to))
 
 -- a step is between devices, and costs 1 to the ceiling
-pub record StepFits (C : CostsValue) (s : Step) : Type 0 where
+pub record StepFits (C : CostsValue) (s : WalkStep) : Type 0 where
   pub from : IsDevice C s.from
   pub to : IsDevice C s.to
   pub some : 1 ≤ s.cost
@@ -118,7 +118,7 @@ value_in es d = has (values_in es) d
 abbrev pub HasWalk : CostsValue → Evidence → Type 0
 HasWalk C e = WalkCosts C e.walk.items e.device e.value
 
--- a claim has each device once, rising
+-- a claim has the devices for which a start is given, in the same order
 abbrev pub HasDevices : CostsValue → List EvidenceValue → Type 0
 HasDevices C es = map (λ (e : EvidenceValue). e.device) es ≡ map (λ (d : ℕ × ℕ). d.0) C.start
 
@@ -132,7 +132,7 @@ AreBelowStarts C es = All (λ (d : ℕ × ℕ). value_in es d.0 ≤ d.1) C.start
 
 -- no value is above what a step adds to the value of a neighbour, stopped at the ceiling
 abbrev pub AreSettled : CostsValue → List EvidenceValue → Type 0
-AreSettled C es = All (λ (s : Step). value_in es s.to ≤ min (value_in es s.from + s.cost) C.ceiling) C.steps
+AreSettled C es = All (λ (s : WalkStep). value_in es s.to ≤ min (value_in es s.from + s.cost) C.ceiling) C.steps
 
 -- a claim that can be checked step by step
 pub record ClaimsHold (C : CostsValue) (es : List EvidenceValue) : Type 0 where

@@ -2,12 +2,12 @@
 
 ghost use Rattle.std.specs.Prelude.{◌≡◌, ◌≤◌, ℕ, map, ◌++◌, IfOk, OnOk};
 ghost use Rattle.std.specs.List.{All};
-ghost use Rattle.topology.specs.Networks.{device_of, near, numbers};
+ghost use Rattle.topology.specs.Networks.{net_device_of, near, numbers};
 ghost use Rattle.walks.specs.Walks.{costs_of, IsCosts};
 ghost use Rattle.walks.specs.Gathering.{added_of, added, step_to, steps_from, gathered, AreOf, AddFits, EachRises};
 
 use crate::lookups::place;
-use crate::types::{Add, Costs, Step};
+use crate::types::{Add, Costs, WalkStep};
 use fc_values::Memory;
 use std::alloc::Global;
 use topology::{Device, Network, neighbours_are_mutual};
@@ -41,8 +41,8 @@ fn all_steps(
     net: &Network,
     devices: &[Device],
     add: &Add,
-) -> Result<Vec<Step>, Memory>
-    requires devices { map device_of devices.now ≡ net.now.devices }
+) -> Result<Vec<WalkStep>, Memory>
+    requires devices { map net_device_of devices.now ≡ net.now.devices }
     requires add { EachRises (added_of add.now) }
     ensures { IfOk result (λ v. v.items ≡ steps_from net.now (added_of add.now) (numbers net.now.devices)) }
 {
@@ -54,13 +54,18 @@ fn all_steps(
 }
 
 // Puts the steps from a device behind others.
-fn push_steps(steps: &mut Vec<Step>, net: &Network, device: u32, add: &Add) -> Result<(), Memory>
+fn push_steps(
+    steps: &mut Vec<WalkStep>,
+    net: &Network,
+    device: u32,
+    add: &Add,
+) -> Result<(), Memory>
     requires { EachRises (added_of add.now) }
     ensures { OnOk result (steps.new.items
         ≡ steps.old.items ++ map (step_to (added_of add.now) device) (near net.now device)) }
 {
     for one in net.neighbours(device) {
-        steps.push(Step {
+        steps.push(WalkStep {
             from: device,
             to: one.0,
             cost: added(add, *one),

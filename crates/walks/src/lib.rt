@@ -14,4 +14,4 @@ pub use checks::check_walks;
 pub use gathers::gather;
 pub use laws::{claims_are_least, fixed_values_are_least, traced_claims_hold, walks_are_one};
 pub use traces::trace;
-pub use types::{Add, Costs, Evidence, Step};
+pub use types::{Add, Costs, Evidence, WalkStep};

@@ -5,7 +5,7 @@ ghost use Rattle.std.specs.List.{All, AllPairs, Contains};
 ghost use Rattle.fc_values.specs.Fields.{Rises};
 ghost use Rattle.walks.specs.Walks.{costs_of, IsCosts, IsBefore, StepsAt};
 
-use crate::types::{Costs, Step};
+use crate::types::{Costs, WalkStep};
 
 /// The place of a device among rising ones.
 pub(crate) fn place(pairs: &[(u32, u32)], device: u32) -> Option<usize>
@@ -23,7 +23,7 @@ pub(crate) fn place(pairs: &[(u32, u32)], device: u32) -> Option<usize>
 }
 
 /// The steps from a device.
-pub(crate) fn steps_from(costs: &Costs, device: u32) -> &[Step]
+pub(crate) fn steps_from(costs: &Costs, device: u32) -> &[WalkStep]
     requires { IsCosts (costs_of costs.now) }
     ensures steps { All (λ s. Contains costs.now.steps.items s) result.now }
     ensures from { All (λ s. s.from ≡ device) result.now }

@@ -10,7 +10,7 @@ ghost use Rattle.walks.specs.Tables.{IsTaken, AreLeast, left};
 
 use crate::lookups::steps_from;
 use crate::sums::stopped;
-use crate::types::{Costs, Step};
+use crate::types::{Costs, WalkStep};
 use fc_values::Memory;
 use std::alloc::Global;
 use std::cmp::Reverse;
@@ -87,7 +87,7 @@ fn take_step(
     costs: &Costs,
     values: &mut [u32],
     waiting: &mut Waiting,
-    step: &Step,
+    step: &WalkStep,
 ) -> Result<(), Memory>
     requires from { step.now.from < length values.old }
     requires to { step.now.to < length values.old }

@@ -2,7 +2,7 @@
 
 /// A step from a device to a neighbour, with its cost.
 #[derive(Clone, Copy, Debug, PartialEq, Eq)]
-pub struct Step {
+pub struct WalkStep {
     pub from: u32,
     pub to: u32,
     pub cost: u32,
@@ -13,7 +13,7 @@ pub struct Step {
 pub struct Costs {
     pub ceiling: u32,
     pub start: Vec<(u32, u32)>,
-    pub steps: Vec<Step>,
+    pub steps: Vec<WalkStep>,
 }
 
 /// A device, its value, and a walk to it with that cost.

@@ -4,7 +4,7 @@ use Rattle.std.proofs.lemmas.Bool.{eqb-true, eqb-false, eq-eqb, ltb-true, ltb-fa
 use Rattle.std.proofs.lemmas.List.{drop-append-le, length-append, length-map}
 use Rattle.fc_values.proofs.Rising.{rises_at}
 use Rattle.topology.specs.declared.types.Device.{Device}
-use Rattle.topology.specs.Networks.{Network, NetDevice, IsNetwork, Lives, device_of, numbers}
+use Rattle.topology.specs.Networks.{Network, NetDevice, IsNetwork, Lives, net_device_of, numbers}
 use Rattle.topology.proofs.Lemmas.{in_at, at_in}
 use Rattle.firing_core.specs.declared.entries.Entry.{Entry}
 use Rattle.firing_core.specs.declared.entries.Entry.TheVariants as entry
@@ -25,11 +25,11 @@ use Rattle.worker_pool.proofs.Stretching.{ran_none, ran_more, ran_net, ran_entry
 
 -- ---- places of a network
 
-pub device_number : (n : Network) (ds : List Device) (p : ℕ) (x : Device) → map device_of ds ≡ n.devices → p < length ds → (get_or ds p x).id ≡ get_or (numbers n.devices) p 0
+pub device_number : (n : Network) (ds : List Device) (p : ℕ) (x : Device) → map net_device_of ds ≡ n.devices → p < length ds → (get_or ds p x).id ≡ get_or (numbers n.devices) p 0
 device_number n ds p x e l = sym (number_at ds p x l) ∙ ap (λ (ns : List NetDevice). get_or (numbers ns) p 0) e
 
-pub device_many : (n : Network) (ds : List Device) → map device_of ds ≡ n.devices → length ds ≡ length n.devices
-device_many n ds e = sym (length-map ds device_of) ∙ ap length e
+pub device_many : (n : Network) (ds : List Device) → map net_device_of ds ≡ n.devices → length ds ≡ length n.devices
+device_many n ds e = sym (length-map ds net_device_of) ∙ ap length e
 
 -- ---- begins
 

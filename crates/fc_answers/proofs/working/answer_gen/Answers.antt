@@ -1,7 +1,7 @@
 use Rattle.std.proofs.Common.{[]}
 use Rattle.std.proofs.lemmas.Result.{IfOk-weaker}
 use Rattle.command_words.specs.declared.commands.Work.TheVariants.{Gen}
-use Rattle.fc_inputs.specs.Code.{value_of}
+use Rattle.command_frame.specs.Code.{value_of}
 use Rattle.fc_answers.proofs.Owing.{works_keep}
 use Rattle.fc_answers.proofs.working.answer_gen.Goals as goal
 

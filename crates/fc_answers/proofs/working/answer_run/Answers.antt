@@ -1,6 +1,6 @@
 use Rattle.std.proofs.lemmas.Result.{IfOk-weaker}
 use Rattle.command_words.specs.declared.commands.Work.TheVariants.{Run}
-use Rattle.fc_inputs.specs.Code.{value_of}
+use Rattle.command_frame.specs.Code.{value_of}
 use Rattle.fc_answers.proofs.Owing.{works_keep}
 use Rattle.fc_answers.proofs.working.answer_run.Goals as goal
 

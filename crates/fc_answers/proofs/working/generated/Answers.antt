@@ -1,6 +1,6 @@
 use Rattle.std.proofs.Common.{refl}
-use Rattle.fc_inputs.specs.Causes.{Accepted}
-use Rattle.fc_inputs.specs.Code.{value_of}
+use Rattle.command_frame.specs.Causes.{Accepted}
+use Rattle.command_frame.specs.Code.{value_of}
 use Rattle.fc_answers.proofs.working.generated.Goals as goal
 
 pub returns : goal.returns

@@ -1,9 +1,9 @@
 use Rattle.std.proofs.Common.{◌≤◌, ◌<◌, arith, length, refl}
 use Rattle.fc_values.specs.declared.limits.TheConstants.{MOST_BYTES}
-use Rattle.fc_inputs.specs.Causes.{Accepted}
-use Rattle.fc_inputs.specs.Sections.{WithThree}
+use Rattle.command_frame.specs.Causes.{Accepted}
+use Rattle.command_frame.specs.Sections.{WithThree}
 use Rattle.fc_run.specs.Runs.{Runs}
-use Rattle.fc_inputs.specs.Code.{value_of}
+use Rattle.command_frame.specs.Code.{value_of}
 use Rattle.fc_answers.proofs.Answering.{long_answered, short_answered, stop_answered}
 use Rattle.fc_answers.proofs.working.run_of_input.Goals as goal
 

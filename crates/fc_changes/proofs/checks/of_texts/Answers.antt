@@ -1,9 +1,9 @@
 use Rattle.fc_nodes.specs.Program.{unfolding_of}
 use Rattle.net_json.specs.SceneCode.{value_of_scene}
-use Rattle.fc_inputs.specs.Causes.{Refused}
-use Rattle.fc_inputs.specs.Inputs.{ReadsInput}
-use Rattle.fc_inputs.proofs.Stopping.{stop_is, stops_map}
-use Rattle.fc_inputs.proofs.Unread.{unread}
+use Rattle.command_frame.specs.Causes.{Refused}
+use Rattle.command_frame.specs.Inputs.{ReadsInput}
+use Rattle.command_frame.proofs.Stopping.{stop_is, stops_map}
+use Rattle.command_frame.proofs.Unread.{unread}
 use Rattle.fc_changes.specs.Code.{IsRefused}
 use Rattle.fc_changes.specs.Commands.{BoundsText, ChecksChanges, change_lines_in}
 use Rattle.fc_changes.proofs.Checking.{lines_refused}

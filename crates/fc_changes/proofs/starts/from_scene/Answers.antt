@@ -7,8 +7,8 @@ use Rattle.bound_firing.specs.ExportReferences.{export_bound_in}
 use Rattle.bound_rounds.specs.Tables.{Stand}
 use Rattle.settle_rounds.specs.Starts.{growing_cap}
 use Rattle.net_json.specs.SceneCode.{value_of_scene}
-use Rattle.fc_inputs.specs.Code.{value_of}
-use Rattle.fc_inputs.specs.Starts.{start_of}
+use Rattle.command_frame.specs.Code.{value_of}
+use Rattle.command_frame.specs.Starts.{start_of}
 use Rattle.fc_changes.specs.Commands.{IsWritten}
 use Rattle.fc_changes.proofs.Starting.{from_start}
 use Rattle.fc_changes.proofs.starts.from_scene.Goals as goal

@@ -1,7 +1,7 @@
-use Rattle.fc_inputs.specs.Causes.{Refused}
-use Rattle.fc_inputs.specs.Inputs.{ReadsInput}
-use Rattle.fc_inputs.proofs.Stopping.{stop_is, stops_map}
-use Rattle.fc_inputs.proofs.Unread.{unread}
+use Rattle.command_frame.specs.Causes.{Refused}
+use Rattle.command_frame.specs.Inputs.{ReadsInput}
+use Rattle.command_frame.proofs.Stopping.{stop_is, stops_map}
+use Rattle.command_frame.proofs.Unread.{unread}
 use Rattle.fc_check.specs.Commands.{Checks, ChecksFrom}
 use Rattle.fc_check.proofs.checks.of_texts.Goals as goal
 

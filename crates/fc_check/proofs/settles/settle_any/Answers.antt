@@ -2,7 +2,7 @@ use Rattle.std.proofs.Common.{map, option_map, length, ap, sym, ◌∙◌}
 use Rattle.std.proofs.lemmas.List.{length-map}
 use Rattle.std.proofs.lemmas.Result.{IfOk-weaker}
 use Rattle.fc_nodes.specs.Program.{unfolding_of}
-use Rattle.topology.specs.Networks.{device_of, numbers}
+use Rattle.topology.specs.Networks.{net_device_of, numbers}
 use Rattle.settle_rounds.specs.References.{settled_in}
 use Rattle.settle_rounds.specs.Rounds.{any_table}
 use Rattle.fc_check.specs.Code.{settled_answer}
@@ -19,7 +19,7 @@ returns c =
     let ds = c.devices-devices.result.now in
     let made = are_settling c.args.facts U N (any_table U) v (length ds) c.settle_cap.result text os
     (record {
-      many = sym (length-map ds device_of) ∙ ap length c.devices-devices.ensures.value;
+      many = sym (length-map ds net_device_of) ∙ ap length c.devices-devices.ensures.value;
       verdict = c.in_ok-verdict.ensures.verdict;
       cap = c.settle_cap.ensures;
       judged = c.in_ok-verdict.ensures.text;

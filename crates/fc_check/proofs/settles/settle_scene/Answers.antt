@@ -2,15 +2,15 @@ use Rattle.std.proofs.Common.{◌≡◌, map, option_map, length, ap, sym, ◌�
 use Rattle.std.proofs.lemmas.List.{length-map}
 use Rattle.std.proofs.lemmas.Result.{IfOk-weaker}
 use Rattle.fc_nodes.specs.Program.{Program, unfolding_of}
-use Rattle.topology.specs.Networks.{Network, device_of, numbers}
+use Rattle.topology.specs.Networks.{Network, net_device_of, numbers}
 use Rattle.firing_core.specs.CoreViews.{core_of, program_of}
 use Rattle.firing_core.specs.Cores.{Core}
 use Rattle.fragment_check.specs.Verdicts.{verdict_of}
 use Rattle.settle_rounds.specs.References.{settled_in}
 use Rattle.net_json.specs.SceneCode.{value_of_scene}
 use Rattle.verdict_texts.specs.VerdictTexts.{checked_text}
-use Rattle.fc_inputs.specs.Causes.{Accepted}
-use Rattle.fc_inputs.specs.Starts.{start_of}
+use Rattle.command_frame.specs.Causes.{Accepted}
+use Rattle.command_frame.specs.Starts.{start_of}
 use Rattle.fc_check.specs.Code.{settled_answer}
 use Rattle.fc_check.proofs.Lines.{are_settling, as_many}
 use Rattle.fc_check.proofs.Settling.{from_start}
@@ -40,7 +40,7 @@ returns c =
     let n = length ds in
     let text = c.in_ok-verdict.text.items in
     let made = are_settling c.args.facts (unfolding_of P) s.net from.table v n c.settle_cap.result text os (record {
-      many = sym (length-map ds device_of)
+      many = sym (length-map ds net_device_of)
           ∙ ap length (c.devices-devices.ensures.value ∙ ap (λ (N : Network). N.devices) c.net.ensures.value)
           ∙ ap (λ (k : Core). length k.net.devices) starts;
       verdict = c.in_ok-verdict.ensures.verdict

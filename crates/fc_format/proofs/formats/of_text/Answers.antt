@@ -1,8 +1,8 @@
 use Rattle.std.proofs.Common.{ap, ◌∙◌}
 use Rattle.fc_syntax.specs.Terms.{program_of}
-use Rattle.fc_inputs.specs.Answers.{plain}
-use Rattle.fc_inputs.specs.Causes.{Refused}
-use Rattle.fc_inputs.proofs.Stopping.{stop_is}
+use Rattle.command_frame.specs.Answers.{plain}
+use Rattle.command_frame.specs.Causes.{Refused}
+use Rattle.command_frame.proofs.Stopping.{stop_is}
 use Rattle.fc_format.specs.Formats.{Formats}
 use Rattle.fc_format.proofs.Formatting.{format_stops, format_prints}
 use Rattle.fc_format.proofs.formats.of_text.Goals as goal

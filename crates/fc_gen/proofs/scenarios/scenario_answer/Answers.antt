@@ -4,7 +4,7 @@ use Rattle.fc_nodes.specs.Program.{Unfolding, unfolding_of}
 use Rattle.fragment_check.specs.Verdicts.{verdict_of}
 use Rattle.stable_field.specs.Stable.{IsStableField}
 use Rattle.topology.specs.Networks.{Network}
-use Rattle.fc_inputs.specs.Code.{value_of}
+use Rattle.command_frame.specs.Code.{value_of}
 use Rattle.fc_gen.proofs.Running.{few_firings, generated, run_within}
 use Rattle.fc_gen.proofs.scenarios.scenario_answer.Goals as goal
 

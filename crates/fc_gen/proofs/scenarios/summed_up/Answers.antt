@@ -3,8 +3,8 @@ use Rattle.fc_values.specs.Fields.{entry_of}
 use Rattle.firing_core.specs.Books.{BookValue}
 use Rattle.firing_core.specs.CoreViews.{core_of}
 use Rattle.firing_core.specs.Entries.{entries_of}
-use Rattle.fc_inputs.specs.Answers.{showing}
-use Rattle.fc_inputs.specs.Ledgers.{ledger_of}
+use Rattle.command_frame.specs.Answers.{showing}
+use Rattle.command_frame.specs.Ledgers.{ledger_of}
 use Rattle.fc_gen.specs.Gens.{gen_text}
 use Rattle.fc_gen.proofs.Running.{summed}
 use Rattle.fc_gen.proofs.scenarios.summed_up.Goals as goal

@@ -1,5 +1,5 @@
 use Rattle.std.proofs.Common.{sym}
-use Rattle.fc_inputs.specs.Code.{value_of}
+use Rattle.command_frame.specs.Code.{value_of}
 use Rattle.fc_library.proofs.Replying.{for_usage}
 use Rattle.fc_library.proofs.replies.answered.Goals as goal
 

@@ -1,4 +1,4 @@
-use Rattle.fc_inputs.specs.Code.{value_of}
+use Rattle.command_frame.specs.Code.{value_of}
 use Rattle.fc_library.proofs.Replying.{is_reply}
 use Rattle.fc_library.proofs.replies.reply.Goals as goal
 

@@ -11,13 +11,13 @@ use Rattle.mail_book.specs.MailViews.{mail_of, quiet}
 use Rattle.mail_count.specs.Laws.{IsGreatestMail}
 use Rattle.report.specs.Texts.{values_text}
 use Rattle.report.specs.Verdicts.{rounds_text}
-use Rattle.fc_inputs.specs.Causes.{Refused}
-use Rattle.fc_inputs.specs.Answers.{plain}
-use Rattle.fc_inputs.specs.Code.{value_of}
-use Rattle.fc_inputs.proofs.Stopping.{stop_is, stops_map}
-use Rattle.fc_inputs.specs.Starts.{start_of}
+use Rattle.command_frame.specs.Causes.{Refused}
+use Rattle.command_frame.specs.Answers.{plain}
+use Rattle.command_frame.specs.Code.{value_of}
+use Rattle.command_frame.proofs.Stopping.{stop_is, stops_map}
+use Rattle.command_frame.specs.Starts.{start_of}
 use Rattle.fc_mail.specs.Code.{IsFaultyMail, IsStoppedMail}
-use Rattle.fc_mail.specs.Mails.{Mails, entries_in}
+use Rattle.fc_mail.specs.Mails.{Mails, mail_entries_in}
 use Rattle.fc_mail.proofs.Mailing.{numbered_entries, faulty_log, stopped_log, shown_log}
 use Rattle.fc_mail.proofs.mails.mail_log.Goals as goal
 
@@ -45,11 +45,11 @@ returns-clause-writes c =
     let entries = mail_entries c.in_ok-log.log.entries.items in
     let es = mailed c.in_ok-log.log in
     let many : length c.in_ok-log.log.lines.items ≡ length entries = c.in_ok-log.ensures.many ∙ sym (length-map c.in_ok-log.log.entries.items mail_entry) in
-    let same : entries_in es ≡ entries = numbered_entries c.in_ok-log.log.lines.items entries many in
+    let same : mail_entries_in es ≡ entries = numbered_entries c.in_ok-log.log.lines.items entries many in
     let made = c.in_ok-book.ensures.book in
     let shows = c.in_ok-show.ensures in
-    let leads : MailRun U 0 start (entries_in es) (mail_of book.mail) = subst (λ (l : List MailEntryValue). MailRun U 0 start l (mail_of book.mail)) (sym same) made.leads in
-    let counted : IsGreatestMail start.core.net (posts_of start) (entries_in es) shows.rounds =
+    let leads : MailRun U 0 start (mail_entries_in es) (mail_of book.mail) = subst (λ (l : List MailEntryValue). MailRun U 0 start l (mail_of book.mail)) (sym same) made.leads in
+    let counted : IsGreatestMail start.core.net (posts_of start) (mail_entries_in es) shows.rounds =
     subst (λ (l : List MailEntryValue). IsGreatestMail start.core.net (posts_of start) l shows.rounds) (made.log_is ∙ sym same)
     (subst (λ (m : MailCore). IsGreatestMail m.core.net (posts_of m) (mail_entries book.log) shows.rounds) made.start_is shows.counted) in
     let text : c.show.new.text.items ≡ values_text (core_of book.mail.core) ++ rounds_text shows.rounds = shows.is ∙ ap (λ (xs : List ℕ). (xs ++ values_text (core_of book.mail.core)) ++ rounds_text shows.rounds) c.new-text.ensures.items in

@@ -7,9 +7,9 @@ use Rattle.message_links.specs.MailEntries.{mail_entry, mail_entries}
 use Rattle.mail_lines.specs.MailLines.{mailed}
 use Rattle.mail_book.specs.MailReplays.{FailsMail}
 use Rattle.mail_book.specs.MailViews.{mail_of, unfolded_of, quiet}
-use Rattle.fc_inputs.specs.declared.stop.Stop.{Stop}
-use Rattle.fc_inputs.specs.Stops.{StopsFor}
-use Rattle.fc_inputs.specs.Starts.{start_of}
+use Rattle.command_frame.specs.declared.stop.Stop.{Stop}
+use Rattle.command_frame.specs.Stops.{StopsFor}
+use Rattle.command_frame.specs.Starts.{start_of}
 use Rattle.fc_mail.specs.Code.{IsMailed, IsStoppedMail, MailWithin, mail_stop}
 use Rattle.fc_mail.proofs.Mailing.{numbered_entries, numbered_lines, fails_within, stops}
 use Rattle.fc_mail.proofs.mails.replayed.Goals as goal

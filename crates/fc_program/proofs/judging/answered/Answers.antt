@@ -1,4 +1,4 @@
-use Rattle.fc_inputs.specs.Code.{value_of}
+use Rattle.command_frame.specs.Code.{value_of}
 use Rattle.fc_program.proofs.Answering.{answer_few, answer_usage, on_ok}
 use Rattle.fc_program.proofs.judging.answered.Goals as goal
 

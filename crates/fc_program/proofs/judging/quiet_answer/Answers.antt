@@ -1,5 +1,5 @@
 use Rattle.fc_answers.specs.Answers.{AnswersSections}
-use Rattle.fc_inputs.specs.Code.{value_of}
+use Rattle.command_frame.specs.Code.{value_of}
 use Rattle.fc_program.proofs.Answering.{none_given, of_long}
 use Rattle.fc_program.proofs.judging.quiet_answer.Goals as goal
 

@@ -1,6 +1,6 @@
-use Rattle.fc_inputs.specs.Sections.{WithThree}
+use Rattle.command_frame.specs.Sections.{WithThree}
 use Rattle.fc_run.specs.Runs.{Runs}
-use Rattle.fc_inputs.specs.Code.{value_of}
+use Rattle.command_frame.specs.Code.{value_of}
 use Rattle.fc_program.proofs.Answering.{none_given, of_long}
 use Rattle.fc_program.proofs.judging.run_answer.Goals as goal
 

@@ -1,5 +1,5 @@
 use Rattle.command_words.specs.Commands.{limit_of}
-use Rattle.fc_inputs.specs.Code.{value_of}
+use Rattle.command_frame.specs.Code.{value_of}
 use Rattle.fc_program.proofs.Answering.{for_limit, for_work, none_past, on_ok}
 use Rattle.fc_program.proofs.judging.threaded_answer.Goals as goal
 

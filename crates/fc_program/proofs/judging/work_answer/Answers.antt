@@ -1,4 +1,4 @@
-use Rattle.fc_inputs.specs.Code.{value_of}
+use Rattle.command_frame.specs.Code.{value_of}
 use Rattle.fc_program.proofs.Answering.{for_gen}
 use Rattle.fc_program.proofs.judging.work_answer.Goals as goal
 

@@ -1,7 +1,7 @@
 use Rattle.std.proofs.Common.{subst, sym}
 use Rattle.fc_nodes.specs.Program.{unfolding_of}
 use Rattle.edit_commands.specs.Logs.{log_of}
-use Rattle.fc_inputs.specs.Stops.{StopsFor}
+use Rattle.command_frame.specs.Stops.{StopsFor}
 use Rattle.fc_replay.specs.Code.{IsFaulty}
 use Rattle.fc_replay.proofs.Replaying.{is_fault_of_log, is_faulty}
 use Rattle.fc_replay.proofs.logs.read_entries.Goals as goal

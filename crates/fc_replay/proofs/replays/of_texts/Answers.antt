@@ -2,13 +2,13 @@ use Rattle.std.proofs.Common.{ap, ◌∙◌, subst, sym}
 use Rattle.fc_nodes.specs.Program.{unfolding_of}
 use Rattle.net_json.specs.SceneCode.{value_of_scene}
 use Rattle.edit_commands.specs.Logs.{log_of, logged}
-use Rattle.fc_inputs.specs.Answers.{AnswerValue, showing}
-use Rattle.fc_inputs.specs.Causes.{Accepted, Refused}
-use Rattle.fc_inputs.specs.Ledgers.{ledger_of}
-use Rattle.fc_inputs.specs.Inputs.{ReadsInput}
-use Rattle.fc_inputs.proofs.Stopping.{stop_is, stops_map}
-use Rattle.fc_inputs.proofs.Unread.{unread}
-use Rattle.fc_inputs.specs.Starts.{start_of}
+use Rattle.command_frame.specs.Answers.{AnswerValue, showing}
+use Rattle.command_frame.specs.Causes.{Accepted, Refused}
+use Rattle.command_frame.specs.Ledgers.{ledger_of}
+use Rattle.command_frame.specs.Inputs.{ReadsInput}
+use Rattle.command_frame.proofs.Stopping.{stop_is, stops_map}
+use Rattle.command_frame.proofs.Unread.{unread}
+use Rattle.command_frame.specs.Starts.{start_of}
 use Rattle.fc_replay.specs.Replays.{Replays, ReplaysLog}
 use Rattle.fc_replay.specs.Code.{IsFaulty, IsStopped}
 use Rattle.fc_replay.proofs.Replaying.{replay_faulty, replay_stopped, replay_shown}

@@ -5,9 +5,9 @@ use Rattle.firing_core.specs.Entries.{entries_of}
 use Rattle.firing_core.specs.Replays.{LogFits}
 use Rattle.net_json.specs.SceneCode.{value_of_scene}
 use Rattle.edit_commands.specs.Logs.{logged}
-use Rattle.fc_inputs.specs.Stops.{StopsFor}
-use Rattle.fc_inputs.specs.Starts.{start_of}
-use Rattle.fc_inputs.specs.Ledgers.{ledger_of}
+use Rattle.command_frame.specs.Stops.{StopsFor}
+use Rattle.command_frame.specs.Starts.{start_of}
+use Rattle.command_frame.specs.Ledgers.{ledger_of}
 use Rattle.fc_replay.specs.Code.{StopsWithin, IsReplayed, IsStopped, stop_of}
 use Rattle.fc_replay.proofs.Entries.{has_read, lines_within}
 use Rattle.fc_replay.proofs.Replaying.{is_replayed, is_stopped}

@@ -1,6 +1,6 @@
 use Rattle.std.proofs.Common.{ℕ, List, ◌∙◌, ap}
-use Rattle.fc_inputs.specs.Answers.{showing}
-use Rattle.fc_inputs.specs.Ledgers.{ledger_of}
+use Rattle.command_frame.specs.Answers.{showing}
+use Rattle.command_frame.specs.Ledgers.{ledger_of}
 use Rattle.fc_run.specs.Code.{ended_of}
 use Rattle.fc_run.proofs.Running.{ended_text}
 use Rattle.fc_run.proofs.runs.ended.Goals as goal

@@ -3,12 +3,12 @@ use Rattle.fc_nodes.specs.Program.{Unfolding, unfolding_of}
 use Rattle.firing_core.specs.CoreViews.{core_of}
 use Rattle.net_json.specs.SceneCode.{value_of_scene}
 use Rattle.edit_commands.specs.Scripts.{numbered, script_of}
-use Rattle.fc_inputs.specs.Causes.{Refused}
-use Rattle.fc_inputs.specs.Inputs.{ReadsInput}
-use Rattle.fc_inputs.specs.Code.{value_of}
-use Rattle.fc_inputs.specs.Starts.{start_of}
-use Rattle.fc_inputs.proofs.Stopping.{stop_is, stops_map}
-use Rattle.fc_inputs.proofs.Unread.{unread}
+use Rattle.command_frame.specs.Causes.{Refused}
+use Rattle.command_frame.specs.Inputs.{ReadsInput}
+use Rattle.command_frame.specs.Code.{value_of}
+use Rattle.command_frame.specs.Starts.{start_of}
+use Rattle.command_frame.proofs.Stopping.{stop_is, stops_map}
+use Rattle.command_frame.proofs.Unread.{unread}
 use Rattle.fc_run.specs.Code.{IsRefused}
 use Rattle.fc_run.specs.Runs.{Runs, RunsScript}
 use Rattle.fc_run.proofs.Running.{lines_refused, lines_judged, lines_ran}

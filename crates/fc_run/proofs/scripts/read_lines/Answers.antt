@@ -2,7 +2,7 @@ use Rattle.std.proofs.Common.{subst, sym}
 use Rattle.fc_nodes.specs.Program.{unfolding_of}
 use Rattle.firing_core.specs.CoreViews.{core_of}
 use Rattle.edit_commands.specs.Scripts.{script_of}
-use Rattle.fc_inputs.specs.Stops.{StopsFor}
+use Rattle.command_frame.specs.Stops.{StopsFor}
 use Rattle.fc_run.specs.Code.{IsRefused}
 use Rattle.fc_run.proofs.Running.{stops_script}
 use Rattle.fc_run.proofs.scripts.read_lines.Goals as goal

@@ -2,7 +2,7 @@ use Rattle.std.proofs.Common.{◌≡◌, ◌∙◌, [], length, sym, ap, refl, a
 use Rattle.std.specs.Prelude.{None, replicate}
 use Rattle.std.specs.Vec.Iter.{into_iter_items}
 use Rattle.value_trees.specs.declared.copies.Snap.{Snap}
-use Rattle.topology.specs.Networks.{device_of}
+use Rattle.topology.specs.Networks.{net_device_of}
 use Rattle.std.proofs.lemmas.List.{length-map}
 use Rattle.firing_core.proofs.Starting.{nothing_left}
 use Rattle.firing_core.proofs.Starting.{filled_none, filled_more, filled_all}
@@ -11,7 +11,7 @@ use Rattle.firing_core.proofs.filling.flight_slots.Goals as goal
 pub loop-snap-init : goal.loop-snap-init
 loop-snap-init c =
     let all : into_iter_items c.into_iter-snap-iterator.result ≡ c.args.pending.items = c.into_iter-snap-iterator.ensures.into_iter_gives.0 in
-    let count : length c.devices.result.now ≡ length c.args.net.now.devices = sym (length-map c.devices.result.now device_of) ∙ ap length c.devices.ensures.value in
+    let count : length c.devices.result.now ≡ length c.args.net.now.devices = sym (length-map c.devices.result.now net_device_of) ∙ ap length c.devices.ensures.value in
     record {
       filled = filled_none (λ (s : Snap). s.device) (λ (s : Snap). s) c.args.net.now _ _ c.args.pending.items (c.in_ok-slots.ensures ∙ ap (λ n. replicate n None) count) all c.requires.rising c.requires.there;
       long = omega (arith, c.into_iter-snap-iterator.ensures.into_iter_gives.1, ap length all, c.args.pending.ok.0);

@@ -3,7 +3,7 @@ use Rattle.std.proofs.Math.Seq.{take-suc}
 use Rattle.fc_values.specs.Fields.{is_in}
 use Rattle.value_trees.specs.Snaps.{tree_of}
 use Rattle.topology.specs.Networks.{near}
-use Rattle.topology.specs.Nearby.{near_numbers}
+use Rattle.topology.specs.Nearby.{neighbour_numbers}
 use Rattle.message_links.specs.MailCores.{reaches}
 use Rattle.message_links.proofs.Reaching.{near_both}
 use Rattle.mail_book.specs.Rows.{lists_of}
@@ -22,8 +22,8 @@ loop-neighbour-preserved c =
     let i = c.loop-neighbour.neighbour-index in
     let n : ℕ × ℕ = get_or ns i (0, 0) in
     let whole : ns ≡ near N d = c.neighbours-neighbour-items.ensures.value in
-    let apart : Distinct (near_numbers ns) = subst (λ (xs : List (ℕ × ℕ)). Distinct (near_numbers xs)) (sym whole) (near_apart_at N d net) in
-    let linked : reaches N d n.0 ≡ true = sym (near_both N d n.0 net) ∙ ap (λ (xs : List (ℕ × ℕ)). is_in n.0 (near_numbers xs)) (sym whole) ∙ in_at ns i (0, 0) c.loop-neighbour-test.true in
+    let apart : Distinct (neighbour_numbers ns) = subst (λ (xs : List (ℕ × ℕ)). Distinct (neighbour_numbers xs)) (sym whole) (near_apart_at N d net) in
+    let linked : reaches N d n.0 ≡ true = sym (near_both N d n.0 net) ∙ ap (λ (xs : List (ℕ × ℕ)). is_in n.0 (neighbour_numbers xs)) (sym whole) ∙ in_at ns i (0, 0) c.loop-neighbour-test.true in
     let one : i + 1 ≡ suc i = omega arith in
     let more : take (i + 1) ns ≡ take i ns ++ n ∷ [] = ap (λ (k : ℕ). take k ns) one ∙ take-suc ns i (0, 0) c.loop-neighbour-test.true in
     record {

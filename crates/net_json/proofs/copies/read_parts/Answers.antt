@@ -8,7 +8,7 @@ use Rattle.value_trees.specs.Snaps.{tree_of}
 use Rattle.value_trees.proofs.Fits.{parts_fit}
 use Rattle.fc_values.specs.Inputs.{InputsFit}
 use Rattle.net_json.specs.PlaceCode.{path_of}
-use Rattle.net_json.specs.Judging.{Accepted, and_then, at_member}
+use Rattle.net_json.specs.Judging.{Accepted, if_accepted, at_member}
 use Rattle.net_json.specs.Inputs.{inputs_judged}
 use Rattle.net_json.specs.Copies.{own_judged, nears_judged}
 use Rattle.net_json.specs.CopyCode.{form_of}
@@ -27,8 +27,8 @@ returns-in_err-near-clause-refused c =
     let declared = c.deref-2.ensures.value ∙ c.in_ok-wanted.ensures ∙ ap (map input_of) c.deref.ensures.value ∙ ap (λ (d : Declarations). d.inputs) c.declared-declared.ensures.value in
     let first = ap (λ (is : List Input). inputs_judged is (at_member path (codes "inputs")) form.inputs) (sym declared) ∙ c.in_ok-inputs.ensures.ok in
     rw (p.1, p.2) (refused_later (inputs_judged U.declared.inputs (at_member path (codes "inputs")) form.inputs)
-    (λ vs. and_then (own_judged U (at_member path (codes "own")) form.own) (λ own. and_then (nears_judged U c.args.device (at_member path (codes "near")) form.near) (λ ns. Accepted (record { device = c.args.device; inputs = vs; own = own; near = ns })))) vs f first
-    (refused_later (own_judged U (at_member path (codes "own")) form.own) (λ own. and_then (nears_judged U c.args.device (at_member path (codes "near")) form.near) (λ ns. Accepted (record { device = c.args.device; inputs = vs; own = own; near = ns }))) own f c.in_ok-own.ensures.ok
+    (λ vs. if_accepted (own_judged U (at_member path (codes "own")) form.own) (λ own. if_accepted (nears_judged U c.args.device (at_member path (codes "near")) form.near) (λ ns. Accepted (record { device = c.args.device; inputs = vs; own = own; near = ns })))) vs f first
+    (refused_later (own_judged U (at_member path (codes "own")) form.own) (λ own. if_accepted (nears_judged U c.args.device (at_member path (codes "near")) form.near) (λ ns. Accepted (record { device = c.args.device; inputs = vs; own = own; near = ns }))) own f c.in_ok-own.ensures.ok
     (refused_next (nears_judged U c.args.device (at_member path (codes "near")) form.near) (λ ns. Accepted (record { device = c.args.device; inputs = vs; own = own; near = ns })) f
     c.in_err-near.ensures.refused)))
 

@@ -4,9 +4,9 @@ use Rattle.std.proofs.lemmas.Result.{err_from_is_err_and}
 use Rattle.serde_json.specs.View.{items_view}
 use Rattle.fc_values.specs.Types.{Input, Declarations, declarations_of, input_of}
 use Rattle.fc_nodes.specs.Program.{Unfolding, unfolding_of}
-use Rattle.topology.specs.Networks.{NetDevice, Network, device_of, network_of}
+use Rattle.topology.specs.Networks.{NetDevice, Network, net_device_of, network_of}
 use Rattle.serde_json.specs.Data.{Items}
-use Rattle.net_json.specs.Judging.{JudgedScene, Accepted, and_then, RefusedWith}
+use Rattle.net_json.specs.Judging.{JudgedScene, Accepted, if_accepted, RefusedWith}
 use Rattle.net_json.specs.Devices.{devices_judged}
 use Rattle.net_json.specs.Links.{links_judged}
 use Rattle.net_json.specs.Scenes.{scene_path, network_judged}
@@ -23,14 +23,14 @@ links_are : (U : Unfolding) (is : List Input) (D : Declarations) (ds ls : Items)
     → is ≡ U.declared.inputs → D ≡ U.declared → devices_judged is (scene_path (codes "devices")) ds ≡ Accepted ns → n ≡ network_of D ns []
     → network_judged U ds ls ≡ links_judged (scene_path (codes "links")) n ls
 links_are U is D ds ls ns n inputs declared e h =
-    ap (λ (j : JudgedScene (List NetDevice)). and_then j (λ ms. links_judged (scene_path (codes "links")) (network_of U.declared ms []) ls))
+    ap (λ (j : JudgedScene (List NetDevice)). if_accepted j (λ ms. links_judged (scene_path (codes "links")) (network_of U.declared ms []) ls))
     (devices_are is U.declared.inputs ds inputs ∙ e)
     ∙ ap (λ (m : Network). links_judged (scene_path (codes "links")) m ls) (sym (h ∙ ap (λ (d : Declarations). network_of d ns []) declared))
 
 pub new-requires : goal.new-requires
 new-requires c =
     let declared = c.in_ok-declared.declared in
-    let ns = map device_of c.in_ok-devices.devices.items in
+    let ns = map net_device_of c.in_ok-devices.devices.items in
     devices_accepted (declarations_of declared) (scene_path (codes "devices")) (items_view c.args.devices.now) ns
     (subst (λ (is : List Input). devices_judged is (scene_path (codes "devices")) (items_view c.args.devices.now) ≡ Accepted ns) (ap (map input_of) c.deref.ensures.value) c.in_ok-devices.ensures.ok)
 
@@ -51,7 +51,7 @@ returns-clause-ok c =
     let declared = c.in_ok-declared.ensures ∙ c.declared.ensures.value in
     subst (λ (j : JudgedScene Network). IfOk c.read_links.result (λ n. j ≡ Accepted n))
     (sym (links_are (unfolding_of c.args.program.now) (map input_of c.deref.result.now) (declarations_of c.in_ok-declared.declared) (items_view c.args.devices.now) (items_view c.args.links.now)
-    (map device_of c.in_ok-devices.devices.items) c.in_ok-draft.draft
+    (map net_device_of c.in_ok-devices.devices.items) c.in_ok-draft.draft
     (ap (map input_of) c.deref.ensures.value ∙ ap (λ (d : Declarations). d.inputs) declared) declared c.in_ok-devices.ensures.ok c.in_ok-draft.ensures))
     c.read_links.ensures.ok
 
@@ -60,6 +60,6 @@ returns-clause-refused c =
     let declared = c.in_ok-declared.ensures ∙ c.declared.ensures.value in
     subst (λ (j : JudgedScene Network). IfErr c.read_links.result (RefusedWith j))
     (sym (links_are (unfolding_of c.args.program.now) (map input_of c.deref.result.now) (declarations_of c.in_ok-declared.declared) (items_view c.args.devices.now) (items_view c.args.links.now)
-    (map device_of c.in_ok-devices.devices.items) c.in_ok-draft.draft
+    (map net_device_of c.in_ok-devices.devices.items) c.in_ok-draft.draft
     (ap (map input_of) c.deref.ensures.value ∙ ap (λ (d : Declarations). d.inputs) declared) declared c.in_ok-devices.ensures.ok c.in_ok-draft.ensures))
     c.read_links.ensures.refused

@@ -3,7 +3,7 @@ use Rattle.std.specs.Prelude.{codes}
 use Rattle.std.proofs.lemmas.Result.{err_from_is_err_and}
 use Rattle.serde_json.specs.View.{view, items_view}
 use Rattle.fc_nodes.specs.Program.{unfolding_of}
-use Rattle.net_json.specs.Judging.{Accepted, and_then}
+use Rattle.net_json.specs.Judging.{Accepted, if_accepted}
 use Rattle.net_json.specs.Copies.{copies_judged}
 use Rattle.net_json.specs.SceneCode.{row_of}
 use Rattle.net_json.specs.Scenes.{scene_path, scene_form, SceneForm, network_judged, or_empty}
@@ -21,13 +21,13 @@ returns-in_err-pending-clause-refused c =
     let n = c.in_ok-net.net in
     let rows = map (row_of U) c.in_ok-table.table.items in
     rw (p.1, p.2) (refused_later (scene_form d)
-    (λ form. and_then (network_judged U form.devices form.links) (λ n. and_then (table_judged U n (scene_path (codes "table")) form.table) (λ rows. and_then (copies_judged U n (scene_path (codes "pending")) form.pending) (λ copies. Accepted (record { net = n; table = rows; pending = copies })))))
+    (λ form. if_accepted (network_judged U form.devices form.links) (λ n. if_accepted (table_judged U n (scene_path (codes "table")) form.table) (λ rows. if_accepted (copies_judged U n (scene_path (codes "pending")) form.pending) (λ copies. Accepted (record { net = n; table = rows; pending = copies })))))
     form f c.in_ok-form.ensures.ok
     (refused_later (network_judged U form.devices form.links)
-    (λ n. and_then (table_judged U n (scene_path (codes "table")) form.table) (λ rows. and_then (copies_judged U n (scene_path (codes "pending")) form.pending) (λ copies. Accepted (record { net = n; table = rows; pending = copies }))))
+    (λ n. if_accepted (table_judged U n (scene_path (codes "table")) form.table) (λ rows. if_accepted (copies_judged U n (scene_path (codes "pending")) form.pending) (λ copies. Accepted (record { net = n; table = rows; pending = copies }))))
     n f c.in_ok-net.ensures.ok
     (refused_later (table_judged U n (scene_path (codes "table")) form.table)
-    (λ rows. and_then (copies_judged U n (scene_path (codes "pending")) form.pending) (λ copies. Accepted (record { net = n; table = rows; pending = copies })))
+    (λ rows. if_accepted (copies_judged U n (scene_path (codes "pending")) form.pending) (λ copies. Accepted (record { net = n; table = rows; pending = copies })))
     rows f c.in_ok-table.ensures.ok
     (refused_next (copies_judged U n (scene_path (codes "pending")) form.pending) (λ copies. Accepted (record { net = n; table = rows; pending = copies })) f
     c.in_err-pending.ensures.refused))))

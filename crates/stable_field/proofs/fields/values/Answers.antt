@@ -3,15 +3,15 @@ use Rattle.std.proofs.lemmas.List.{length-map}
 use Rattle.fc_values.specs.Values.{LocalValue, local_of}
 use Rattle.fc_values.specs.Fields.{Entries}
 use Rattle.topology.specs.declared.types.Device.{Device}
-use Rattle.topology.specs.Networks.{NetDevice, Network, device_of, numbers}
+use Rattle.topology.specs.Networks.{NetDevice, Network, net_device_of, numbers}
 use Rattle.stable_field.proofs.Beginning.{number_at}
 use Rattle.stable_field.proofs.Firings.{have_at, have_long, map_more, take_whole}
 use Rattle.stable_field.proofs.fields.values.Goals as goal
 
-many : (N : Network) (ds : List Device) → map device_of ds ≡ N.devices → length (numbers N.devices) ≡ length ds
+many : (N : Network) (ds : List Device) → map net_device_of ds ≡ N.devices → length (numbers N.devices) ≡ length ds
 many N ds e =
     let m = length-map N.devices (λ (n : NetDevice). n.id) in
-    let m' = length-map ds device_of in
+    let m' = length-map ds net_device_of in
     omega (arith, m, m', ap length e)
 
 pub returns-then-table-devices : goal.returns-then-table-devices

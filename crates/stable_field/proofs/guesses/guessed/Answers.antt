@@ -1,6 +1,6 @@
 use Rattle.std.proofs.Common.{◌≤◌, [], ◌∷◌, arith, length, length-append, ap, subst, sym}
 use Rattle.std.proofs.lemmas.List.{length-map}
-use Rattle.topology.specs.Networks.{device_of}
+use Rattle.topology.specs.Networks.{net_device_of}
 use Rattle.fc_nodes.specs.Program.{unfolding_of}
 use Rattle.value_trees.specs.Copies.{WhereSome}
 use Rattle.value_trees.specs.Snaps.{IsExportOf}
@@ -19,6 +19,6 @@ returns c =
     let h : length c.devices-count.result.now ≤ c.loop-place.place = c.loop-place-test.false in
     let k : c.loop-place.place ≤ length c.devices-count.result.now = c.loop-place.auto.place-end in
     let m = c.loop-place.invariant.many in
-    let m' = length-map c.devices-count.result.now device_of in
+    let m' = length-map c.devices-count.result.now net_device_of in
     let v = ap length c.devices-count.ensures.value in
     record { many = omega (arith, h, k, m, m', v); exports = c.loop-place.invariant.exports }

@@ -3,14 +3,14 @@ use Rattle.std.proofs.lemmas.List.{length-map}
 use Rattle.fc_syntax.specs.Terms.{program_of, declaration_of}
 use Rattle.fc_syntax.specs.declared.tree.Program.{Program}
 use Rattle.fc_values.specs.Types.{declarations_of}
-use Rattle.fc_types.specs.Before.{and_all, declared_before, declared_by, nothing}
+use Rattle.fc_types.specs.Before.{with_declarations, declared_before, declared_by, nothing_declared}
 use Rattle.fc_nodes.specs.Program.{unfolding_of}
 use Rattle.unfold.proofs.Whole.{whole_program, whole_unfolding}
 use Rattle.unfold.proofs.unfolding.unfold.Goals as goal
 
 pub count_nodes-requires : goal.count_nodes-requires
 count_nodes-requires c =
-    c.in_ok-known.ensures ∙ ap (λ (p : Program). and_all nothing (program_of p)) c.program-program.ensures.value
+    c.in_ok-known.ensures ∙ ap (λ (p : Program). with_declarations nothing_declared (program_of p)) c.program-program.ensures.value
 
 pub new-requires : goal.new-requires
 new-requires c =

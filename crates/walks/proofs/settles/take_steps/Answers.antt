@@ -1,6 +1,6 @@
 use Rattle.std.proofs.Common.{get_or, refl, arith}
 use Rattle.std.specs.BinaryHeap.{heap_items}
-use Rattle.walks.specs.declared.types.Step.{Step}
+use Rattle.walks.specs.declared.types.WalkStep.{WalkStep}
 use Rattle.walks.specs.Walks.{costs_of}
 use Rattle.walks.proofs.Settling.{part_begins, part_ends, part_more, to_within, from_within, taken_costs, taken_devices, taken_covered, taken_itself, taken_left}
 use Rattle.walks.proofs.settles.take_steps.Goals as goal
@@ -15,19 +15,19 @@ loop-step-init c = record {
 
 pub take_step-requires-clause-from : goal.take_step-requires-clause-from
 take_step-requires-clause-from c =
-    let none : Step = record { from = 0; to = 0; cost = 0 } in
+    let none : WalkStep = record { from = 0; to = 0; cost = 0 } in
     let i = c.loop-step.step-index in
     from_within (costs_of c.args.costs.now) c.requires.costs (get_or c.steps_from-step-items.result.now i none) (c.steps_from-step-items.ensures.steps i none c.loop-step-test.true) c.loop-step.values c.loop-step.invariant.values
 
 pub take_step-requires-clause-to : goal.take_step-requires-clause-to
 take_step-requires-clause-to c =
-    let none : Step = record { from = 0; to = 0; cost = 0 } in
+    let none : WalkStep = record { from = 0; to = 0; cost = 0 } in
     let i = c.loop-step.step-index in
     to_within (costs_of c.args.costs.now) c.requires.costs (get_or c.steps_from-step-items.result.now i none) (c.steps_from-step-items.ensures.steps i none c.loop-step-test.true) c.loop-step.values c.loop-step.invariant.values
 
 pub loop-step-preserved : goal.loop-step-preserved
 loop-step-preserved c =
-    let none : Step = record { from = 0; to = 0; cost = 0 } in
+    let none : WalkStep = record { from = 0; to = 0; cost = 0 } in
     let i = c.loop-step.step-index in
     let part = c.steps_from-step-items.result.now in
     let C = costs_of c.args.costs.now in

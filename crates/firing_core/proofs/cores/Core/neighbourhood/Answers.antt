@@ -5,7 +5,7 @@ use Rattle.fc_values.specs.Exports.{export_of}
 use Rattle.value_trees.specs.declared.copies.Snap.{Snap}
 use Rattle.value_trees.specs.Snaps.{snap_copy, near_copy, NearAreExports, IsSnap}
 use Rattle.topology.specs.declared.types.Device.{Device}
-use Rattle.topology.specs.Networks.{NetDevice, device_of, numbers, inputs_in, near}
+use Rattle.topology.specs.Networks.{NetDevice, net_device_of, numbers, inputs_in, near}
 use Rattle.firing_core.specs.Cores.{copy_of, near_copies}
 use Rattle.firing_core.specs.CoreViews.{CoreValue, core_of, program_of}
 use Rattle.firing_core.specs.contracts.cores.Core.{the_view}
@@ -31,9 +31,9 @@ module _ (c : goal.In_ok-hear) where
   inputs : map local_of c.in_ok-inputs.inputs.items ≡ inputs_in c.args.device (the_view c.self.inside).net.devices
   inputs =
       let all = c.devices.ensures.value in
-      let n : Distinct (numbers (map device_of c.devices.result.now)) = subst (λ (ns : List NetDevice). Distinct (numbers ns)) (sym all) (rises_distinct _ c.self.invariant.net.rising) in
-      let h : c.args.place < length c.devices.result.now = let w = within in omega (arith, w, length-map c.devices.result.now device_of, ap length all) in
-      let q : get_or (numbers (map device_of c.devices.result.now)) c.args.place 0 ≡ c.args.device = subst (λ (ns : List NetDevice). get_or (numbers ns) c.args.place 0 ≡ c.args.device) (sym all) place in
+      let n : Distinct (numbers (map net_device_of c.devices.result.now)) = subst (λ (ns : List NetDevice). Distinct (numbers ns)) (sym all) (rises_distinct _ c.self.invariant.net.rising) in
+      let h : c.args.place < length c.devices.result.now = let w = within in omega (arith, w, length-map c.devices.result.now net_device_of, ap length all) in
+      let q : get_or (numbers (map net_device_of c.devices.result.now)) c.args.place 0 ≡ c.args.device = subst (λ (ns : List NetDevice). get_or (numbers ns) c.args.place 0 ≡ c.args.device) (sym all) place in
       c.in_ok-inputs.ensures
       ∙ ap (map local_of) c.deref.ensures.value
       ∙ ap (λ (x : Device). map local_of x.inputs.items) (sym c.index-devices-place.is)

@@ -1,8 +1,8 @@
 use Rattle.std.proofs.Common.{◌≡◌, ◌≤◌, ◌+◌, ℕ, List, [], ◌∷◌, length, map, take, replicate, sym, ◌∙◌, ap, subst, arith, Bool, false, Vec, Global}
 use Rattle.std.proofs.lemmas.List.{length-map, map-append}
 use Rattle.topology.specs.declared.types.Device.{Device}
-use Rattle.topology.specs.Networks.{Network, NetDevice, IsNetwork, device_of, numbers, near}
-use Rattle.topology.specs.Nearby.{near_numbers}
+use Rattle.topology.specs.Networks.{Network, NetDevice, IsNetwork, net_device_of, numbers, near}
+use Rattle.topology.specs.Nearby.{neighbour_numbers}
 use Rattle.firing_core.specs.CoreViews.{CoreValue}
 use Rattle.message_links.specs.MailCores.{Pairs}
 use Rattle.mail_book.specs.MailViews.{mail_of}
@@ -26,7 +26,7 @@ loop-device-preserved c =
     let net : IsNetwork N = subst IsNetwork there c.devices-devices.ensures.network in
     let long : length (brought_row row.items) ≤ 32 =
     let a = ap (length {A = Bool}) c.in_ok-row.ensures.brought in
-    let b = length-map (near_numbers (near N x.id)) (λ (to : ℕ). false) in
+    let b = length-map (neighbour_numbers (near N x.id)) (λ (to : ℕ). false) in
     let d = length-map (near N x.id) (λ (n : ℕ × ℕ). n.0) in
     let e = net.degree x.id in
     omega arith in
@@ -50,9 +50,9 @@ returns c =
     let ds = c.devices-devices.result.now in
     let was = c.loop-device.invariant in
     let there : c.net.result.now ≡ N = c.net.ensures.value ∙ ap (λ (k : CoreValue). k.net) c.core.ensures.value in
-    let all : map device_of ds ≡ N.devices = c.devices-devices.ensures.value ∙ ap (λ (n : Network). n.devices) there in
-    let ids : numbers (map device_of (take c.loop-device.device-index ds)) ≡ numbers N.devices = ap (λ (l : List Device). numbers (map device_of l)) (take_all ds c.loop-device.device-index c.loop-device-test.false) ∙ ap numbers all in
-    let count : length ds ≡ length (numbers N.devices) = sym (length-map ds device_of) ∙ ap (length {A = NetDevice}) all ∙ sym (length-map N.devices (λ (n : NetDevice). n.id)) in
+    let all : map net_device_of ds ≡ N.devices = c.devices-devices.ensures.value ∙ ap (λ (n : Network). n.devices) there in
+    let ids : numbers (map net_device_of (take c.loop-device.device-index ds)) ≡ numbers N.devices = ap (λ (l : List Device). numbers (map net_device_of l)) (take_all ds c.loop-device.device-index c.loop-device-test.false) ∙ ap numbers all in
+    let count : length ds ≡ length (numbers N.devices) = sym (length-map ds net_device_of) ∙ ap (length {A = NetDevice}) all ∙ sym (length-map N.devices (λ (n : NetDevice). n.id)) in
     let fired = c.in_ok-fired.ensures.items_if_clones_equal (λ y h. h) ∙ all_false (length ds) (numbers N.devices) count in
     let brought : brought_rows c.loop-device.rows.items ≡ pair_rows N (λ a b. false) = was.brought ∙ ap (map (row_of N (λ a b. false))) ids in
     record {

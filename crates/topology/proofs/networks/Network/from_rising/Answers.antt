@@ -2,7 +2,7 @@ use Rattle.std.proofs.Common.{◌≡◌, ◌∙◌, sym, ap, subst, map, arith, 
 use Rattle.std.proofs.lemmas.List.{length-map}
 use Rattle.fc_values.specs.Types.{declarations_of}
 use Rattle.topology.specs.declared.types.Link.{Link}
-use Rattle.topology.specs.Networks.{Edge, IsNetwork, device_of, edge_of, network_of}
+use Rattle.topology.specs.Networks.{Edge, IsNetwork, net_device_of, edge_of, network_of}
 use Rattle.topology.specs.Changes.{link_fault, linked}
 use Rattle.topology.proofs.Kept.{links_few}
 use Rattle.topology.proofs.NextLink.{may_link, linked_is, no_refusal, up_to, parted}
@@ -10,13 +10,13 @@ use Rattle.topology.proofs.networks.Network.from_rising.Goals as goal
 
 pub make_room-requires : goal.make_room-requires
 make_room-requires c =
-    let few = links_few (network_of (declarations_of c.args.declared) (map device_of c.args.devices.items) (map edge_of c.args.links.items)) c.requires in
-    omega (arith, few, length-map c.args.devices.items device_of, length-map c.args.links.items edge_of, c.len.ensures, c.args.devices.ok.0)
+    let few = links_few (network_of (declarations_of c.args.declared) (map net_device_of c.args.devices.items) (map edge_of c.args.links.items)) c.requires in
+    omega (arith, few, length-map c.args.devices.items net_device_of, length-map c.args.links.items edge_of, c.len.ensures, c.args.devices.ok.0)
 
 pub loop-link-preserved : goal.loop-link-preserved
 loop-link-preserved c =
     let D = declarations_of c.args.declared in
-    let ns = map device_of c.args.devices.items in
+    let ns = map net_device_of c.args.devices.items in
     let xs = c.deref-link-items.result.now in
     let i = c.loop-link.link-index in
     let zero_link : Link = record { a = 0; b = 0; weight = 0 } in

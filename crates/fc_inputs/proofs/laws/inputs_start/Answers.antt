@@ -1,5 +1,0 @@
-use Rattle.fc_inputs.proofs.GoodStart.{inputs_start}
-use Rattle.fc_inputs.proofs.laws.inputs_start.Goals as goal
-
-pub returns : goal.returns
-returns c = inputs_start c.accepted_scenes_fit.ensures

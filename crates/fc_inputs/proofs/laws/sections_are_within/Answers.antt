@@ -1,7 +1,0 @@
-use Rattle.std.proofs.Common.{length, refl}
-use Rattle.fc_inputs.specs.Sections.{sections_of}
-use Rattle.fc_inputs.proofs.SectionSizes.{more_room, within_input}
-use Rattle.fc_inputs.proofs.laws.sections_are_within.Goals as goal
-
-pub returns : goal.returns
-returns c = λ input most few. more_room (length input) most (sections_of input) few (within_input input (sections_of input) refl)

@@ -1,5 +1,0 @@
-use Rattle.fc_inputs.proofs.Resuming.{tables_resume}
-use Rattle.fc_inputs.proofs.laws.tables_resume.Goals as goal
-
-pub returns : goal.returns
-returns c = tables_resume c.tables_read_back.ensures

@@ -1,5 +1,0 @@
-use Rattle.fc_inputs.proofs.InputNames.{names_inputs}
-use Rattle.fc_inputs.proofs.laws.texts_name_inputs.Goals as goal
-
-pub returns : goal.returns
-returns c = names_inputs c.derived_is_printable.ensures
