@@ -5,8 +5,8 @@ use Rattle.std.specs.Prelude.{IfSome, unwrap_or}
 use Rattle.std.specs.List.{list_all}
 use Rattle.std.specs.Str.{bytes_eq}
 use Rattle.std.proofs.lemmas.Bool.Decides.{nat_tests}
-use Rattle.command_words.specs.declared.choices.Name.{Name}
-use Rattle.command_words.specs.declared.choices.Name.TheVariants.{Check, Stable, Run, Replay, Format, Gen, Trace, Mail}
+use Rattle.command_words.specs.declared.choices.CommandName.{CommandName}
+use Rattle.command_words.specs.declared.choices.CommandName.TheVariants.{Check, Stable, Run, Replay, Format, Gen, Trace, Mail}
 use Rattle.command_words.specs.declared.commands.Command.TheVariants as command
 use Rattle.command_words.specs.declared.commands.Quiet.TheVariants as quiet
 use Rattle.command_words.specs.declared.settings.Flag.TheVariants.{Facts, Settle, FromTable, Changes}
@@ -23,7 +23,7 @@ use Rattle.command_words.specs.Words.{gen_with, name_of, number, takes}
 use Rattle.command_words.proofs.ClapWalk.{both}
 use Rattle.command_words.proofs.AllKinds.{found_kind}
 
-module _ (name : Name) where
+module _ (name : CommandName) where
   -- what is found among settings that are allowed is great enough
   found_enough : (settings : List Setting) (k : Kind) (s : Setting) → list_all (allows name) settings ≡ true
       → found k settings ≡ Some s → is_enough s ≡ true
@@ -82,7 +82,7 @@ checked facts settle from_table true d = tt
 checked facts settle from_table false true = tt
 checked facts settle from_table false false = tt
 
-chosen_enough : (n : Name) (settings : List Setting) → list_all (allows n) settings ≡ true
+chosen_enough : (n : CommandName) (settings : List Setting) → list_all (allows n) settings ≡ true
     → IfSome (command_with n (λ k. found k settings)) IsCommand
 chosen_enough Check settings allowed =
     let look : Kind → Option Setting = λ k. found k settings in
@@ -105,7 +105,7 @@ chosen_enough Gen settings allowed = by_number (number (λ k. found k settings) 
       work = least 3 64 _ (omega (arith)) (some_devices Gen settings allowed);
     }
 
-from_enough : (n : Name) (ss : List Setting) → IfSome (command_from n ss) IsCommand
+from_enough : (n : CommandName) (ss : List Setting) → IfSome (command_from n ss) IsCommand
 from_enough n ss = by_allowed (list_all (allows n) ss) (are_once ss) refl
   where
     by_allowed : (a b : Bool) → list_all (allows n) ss ≡ a

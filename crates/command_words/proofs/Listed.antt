@@ -15,7 +15,7 @@ use Rattle.clap.specs.Simple.{App, Shape, built, matches_of}
 use Rattle.clap.specs.Takes.{settle_passes, takes}
 use Rattle.command_words.specs.Words as words
 use Rattle.fc_values.specs.Numbers.{number_of}
-use Rattle.command_words.specs.declared.choices.Name.{Name}
+use Rattle.command_words.specs.declared.choices.CommandName.{CommandName}
 use Rattle.command_words.specs.declared.commands.Command.{Command}
 use Rattle.command_words.specs.declared.settings.Flag.{Flag}
 use Rattle.command_words.specs.declared.settings.Numbered.{Numbered}
@@ -231,7 +231,7 @@ module _ (s : Shape) where
     stands = subst (λ o. Stands s w st.look (place_of o)) (same kind.Alone) st.stands;
   }
 
-  module _ (name : Name) (kinds : (k : Kind) → words.takes name k ≡ true → Takes k) where
+  module _ (name : CommandName) (kinds : (k : Kind) → words.takes name k ≡ true → Takes k) where
     all_read : (ws : List Written) (w : Walk) (all : Kind → Option Setting)
         → list_all (allows name) (written_settings ws) ≡ true → are_once (written_settings ws) ≡ true
         → IsApart all (written_settings ws) → State w all
@@ -325,7 +325,7 @@ alone_read row default (Some (set.Option o n)) e unread is = absurd (cc (is (set
 alone_read row default (Some (set.Alone n)) e unread is = some_read set.Alone (codes "alone") row default n e
 
 -- the settings that words ask for are what `clap` reads
-pub record Reads (name : Name) (app : App) (words : List (List ℕ)) (o : Option Command) : Type 0 where
+pub record Reads (name : CommandName) (app : App) (words : List (List ℕ)) (o : Option Command) : Type 0 where
   pub settings : List Setting
   pub is : o ≡ command_with name (λ k. found k settings)
   pub takes : takes app words ≡ true

@@ -4,7 +4,7 @@ use Rattle.std.specs.List.{list_all}
 use Rattle.clap.specs.Simple.{App, built, filled, is_simple, with_index}
 use Rattle.clap.specs.Takes.{default_passes, is_valid}
 use Rattle.clap.specs.Walk.{Row, Rule, arg_by_id, arg_by_index, arg_by_long}
-use Rattle.command_words.specs.declared.choices.Name.{Name}
+use Rattle.command_words.specs.declared.choices.CommandName.{CommandName}
 use Rattle.command_words.specs.declared.settings.Kind.{Kind}
 use Rattle.command_words.specs.declared.settings.Kind.TheVariants as kind
 use Rattle.command_words.specs.Options.{rule_for}
@@ -37,13 +37,13 @@ wanted taken k = (
 )
 
 -- the command has what it needs for each kind that it takes
-pub record Offers (app : App) (name : Name) : Type 0 where
+pub record Offers (app : App) (name : CommandName) : Type 0 where
   pub named : IsNamed app
   pub simple : is_simple app ≡ true
   pub kinds : map (offered (built app).top.rules) all_kinds ≡ map (λ k. wanted (takes name k) k) all_kinds
   pub defaults : list_all default_passes (built app).top.rules ≡ true
   pub valid : (rows : List Row) → is_valid (built app).top rows false ≡ true
 
-pub kind_offered : (app : App) (name : Name) → Offers app name → (k : Kind)
+pub kind_offered : (app : App) (name : CommandName) → Offers app name → (k : Kind)
     → offered (built app).top.rules k ≡ wanted (takes name k) k
 kind_offered app name is = for_all (offered (built app).top.rules) (λ k. wanted (takes name k) k) is.kinds

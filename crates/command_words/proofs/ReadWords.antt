@@ -6,15 +6,15 @@ use Rattle.clap.specs.Takes.{default_passes, is_valid}
 use Rattle.clap.specs.Walk.{Row}
 use Rattle.clap.specs.Words.{is_simple}
 use Rattle.clap.proofs.OnLiterals.{clap_on_literals}
-use Rattle.command_words.specs.declared.choices.Name.{Name}
-use Rattle.command_words.specs.declared.choices.Name.TheVariants.{Check, Stable, Run, Replay, Format, Gen, Trace, Mail}
+use Rattle.command_words.specs.declared.choices.CommandName.{CommandName}
+use Rattle.command_words.specs.declared.choices.CommandName.TheVariants.{Check, Stable, Run, Replay, Format, Gen, Trace, Mail}
 use Rattle.command_words.specs.Options.{asked_of, options_of, plain_app}
 use Rattle.command_words.specs.Words.{takes}
 use Rattle.command_words.proofs.AllKinds.{all_kinds}
 use Rattle.command_words.proofs.Listed.{Reads, reads_words}
 use Rattle.command_words.proofs.Offered.{Offers, offered, wanted}
 
-abbrev offers : {app : App} {n : Name} → names_of (built app) ≡ [] → app.top.no_binary_name ≡ false
+abbrev offers : {app : App} {n : CommandName} → names_of (built app) ≡ [] → app.top.no_binary_name ≡ false
     → is_simple app ≡ true
     → map (offered (built app).top.rules) all_kinds ≡ map (λ k. wanted (takes n k) k) all_kinds
     → list_all default_passes (built app).top.rules ≡ true
@@ -27,7 +27,7 @@ offers names named simple kinds defaults valid = record {
   valid = valid;
 }
 
-all_offered : (n : Name) (name : List ℕ) → Offers (options_of n name) n
+all_offered : (n : CommandName) (name : List ℕ) → Offers (options_of n name) n
 unfolding clap_on_literals options_of plain_app
 all_offered Check name = offers refl refl refl refl refl (λ rows. refl)
 all_offered Stable name = offers refl refl refl refl refl (λ rows. refl)

@@ -6,7 +6,7 @@ use Rattle.clap.specs.Simple.{Shape, on_top}
 use Rattle.clap.specs.declared.builder.action.ArgAction.TheVariants.{Set, SetTrue}
 use Rattle.command_words.specs.declared.commands.Command.{Command}
 use Rattle.fc_values.specs.Numbers.{number_of}
-use Rattle.command_words.specs.declared.choices.Name.{Name}
+use Rattle.command_words.specs.declared.choices.CommandName.{CommandName}
 use Rattle.command_words.specs.declared.settings.Flag.{Flag}
 use Rattle.command_words.specs.declared.settings.Kind.{Kind}
 use Rattle.command_words.specs.declared.settings.Kind.TheVariants as kind
@@ -44,7 +44,7 @@ unfoldable pub plain_app : List ℕ → App
 plain_app name = on_top without_help (new_app name)
 
 -- the command of this name, with all that it takes
-unfoldable pub options_of : Name → List ℕ → App
+unfoldable pub options_of : CommandName → List ℕ → App
 options_of name word = fold with_rule (plain_app word) (map rule_for (taken name))
 
 -- the command of this name that the words ask for, of which the command's is the first

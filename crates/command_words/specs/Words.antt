@@ -8,8 +8,8 @@ use Rattle.command_words.specs.declared.commands.Command.TheVariants as command
 use Rattle.command_words.specs.declared.commands.Quiet.TheVariants as quiet
 use Rattle.command_words.specs.declared.commands.Work.{Work}
 use Rattle.command_words.specs.declared.commands.Work.TheVariants as work
-use Rattle.command_words.specs.declared.choices.Name.{Name}
-use Rattle.command_words.specs.declared.choices.Name.TheVariants.{Check, Stable, Run, Replay, Format, Gen, Trace, Mail}
+use Rattle.command_words.specs.declared.choices.CommandName.{CommandName}
+use Rattle.command_words.specs.declared.choices.CommandName.TheVariants.{Check, Stable, Run, Replay, Format, Gen, Trace, Mail}
 use Rattle.command_words.specs.declared.settings.Flag.{Flag}
 use Rattle.command_words.specs.declared.settings.Flag.TheVariants.{Facts, Settle, FromTable, Changes, Log, Table, Rounds}
 use Rattle.command_words.specs.declared.settings.Kind.{Kind}
@@ -33,7 +33,7 @@ name_of word =
     if bytes_eq word (codes "mail") then Some Mail else None
 
 -- the flags, options and numbers that a command takes
-abbrev pub taken : Name → List Kind
+abbrev pub taken : CommandName → List Kind
 taken Check = kind.Flag Facts ∷ kind.Flag Settle ∷ kind.Flag FromTable ∷ kind.Flag Changes ∷ []
 taken Run = kind.Option Workers ∷ kind.Flag Log ∷ kind.Flag Table ∷ []
 taken Replay = kind.Flag Rounds ∷ kind.Flag Table ∷ []
@@ -41,7 +41,7 @@ taken Gen = kind.Alone ∷ kind.Option Devices ∷ kind.Option Workers ∷ []
 taken Mail = kind.Option Number ∷ []
 taken name = []
 
-abbrev pub takes : Name → Kind → Bool
+abbrev pub takes : CommandName → Kind → Bool
 takes name kind = list_any (λ k. bytes_eq (id_of k) (id_of kind)) (taken name)
 
 -- workers are at least 1, and devices at least 3
@@ -50,7 +50,7 @@ is_enough (set.Option Workers n) = nat_le 1 n
 is_enough (set.Option Devices n) = nat_le 3 n
 is_enough setting = true
 
-abbrev pub allows : Name → Setting → Bool
+abbrev pub allows : CommandName → Setting → Bool
 allows name setting = takes name (kind_of setting) && is_enough setting
 
 -- the `check` with its flags: `--from-table` and `--changes` stand beside `--settle` only
@@ -78,7 +78,7 @@ abbrev pub number : (Kind → Option Setting) → Kind → Option ℕ
 number look kind = option_and_then number_in (look kind)
 
 -- the command with what is set, and the defaults for the rest
-abbrev pub command_with : Name → (Kind → Option Setting) → Option Command
+abbrev pub command_with : CommandName → (Kind → Option Setting) → Option Command
 command_with Check look = check_with (has look Facts) (has look Settle) (has look FromTable) (has look Changes)
 command_with Stable look = Some (command.Quiet quiet.Stable)
 command_with Run look =
@@ -96,7 +96,7 @@ abbrev pub Finds : (Kind → Option Setting → Type 0) → (Kind → Option Set
 Finds Call look = (kind : Kind) (s : Option Setting) → Call kind s → s ≡ look kind
 
 -- the command of a name with its settings, if it takes each of them and nothing is set twice
-abbrev pub command_from : Name → List Setting → Option Command
+abbrev pub command_from : CommandName → List Setting → Option Command
 command_from name settings =
     if list_all (allows name) settings && are_once settings then command_with name (λ kind. found kind settings) else None
 

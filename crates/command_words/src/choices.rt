@@ -58,29 +58,29 @@ pub fn named(word: &str) -> Option<CommandName>
 }
 
 /// What a command takes.
-pub fn taken(name: Name) -> &'static [Kind]
+pub fn taken(name: CommandName) -> &'static [Kind]
     ensures { result.now ≡ taken name }
 {
     match name {
-        Name::Check => &[
+        CommandName::Check => &[
             Kind::Flag(Flag::Facts),
             Kind::Flag(Flag::Settle),
             Kind::Flag(Flag::FromTable),
             Kind::Flag(Flag::Changes),
         ],
-        Name::Run => &[
+        CommandName::Run => &[
             Kind::Option(Numbered::Workers),
             Kind::Flag(Flag::Log),
             Kind::Flag(Flag::Table),
         ],
-        Name::Replay => &[Kind::Flag(Flag::Rounds), Kind::Flag(Flag::Table)],
-        Name::Gen => &[
+        CommandName::Replay => &[Kind::Flag(Flag::Rounds), Kind::Flag(Flag::Table)],
+        CommandName::Gen => &[
             Kind::Alone,
             Kind::Option(Numbered::Devices),
             Kind::Option(Numbered::Workers),
         ],
-        Name::Mail => &[Kind::Option(Numbered::Number)],
-        Name::Stable | Name::Format | Name::Trace => &[],
+        CommandName::Mail => &[Kind::Option(Numbered::Number)],
+        CommandName::Stable | CommandName::Format | CommandName::Trace => &[],
     }
 }
 
@@ -96,14 +96,14 @@ fn is_enough(setting: Setting) -> bool
 }
 
 // Whether a command takes a kind.
-fn takes(name: Name, kind: Kind) -> bool
+fn takes(name: CommandName, kind: Kind) -> bool
     ensures { result ≡ takes name kind }
 {
     taken(name).iter().any(|other| other.id() == kind.id())
 }
 
 // Whether a command takes a setting.
-fn allowed(name: Name, setting: Setting) -> bool
+fn allowed(name: CommandName, setting: Setting) -> bool
     ensures { result ≡ allows name setting }
 {
     takes(name, setting.kind()) && is_enough(setting)
@@ -169,19 +169,19 @@ fn number<F: Fn(Kind) -> Option<Setting>>(find: &F, kind: Kind) -> Option<u32>
 }
 
 /// The command with the settings that are found, and the defaults for the rest.
-pub fn chosen<F: Fn(Kind) -> Option<Setting>>(name: Name, find: F) -> Option<Command>
+pub fn chosen<F: Fn(Kind) -> Option<Setting>>(name: CommandName, find: F) -> Option<Command>
     requires { F.IsAlwaysCallable find }
     ensures { (look : _) → Finds (F.post find) look → result ≡ command_with name look }
 {
     match name {
-        Name::Check => check_with(
+        CommandName::Check => check_with(
             has(&find, Flag::Facts),
             has(&find, Flag::Settle),
             has(&find, Flag::FromTable),
             has(&find, Flag::Changes),
         ),
-        Name::Stable => Some(Command::Quiet(Quiet::Stable)),
-        Name::Run => {
+        CommandName::Stable => Some(Command::Quiet(Quiet::Stable)),
+        CommandName::Run => {
             let options = RunOptions {
                 log: has(&find, Flag::Log),
                 table: has(&find, Flag::Table),
@@ -189,18 +189,18 @@ pub fn chosen<F: Fn(Kind) -> Option<Setting>>(name: Name, find: F) -> Option<Com
             let workers = number(&find, Kind::Option(Numbered::Workers));
             Some(worked_by(workers, Work::Run(options)))
         }
-        Name::Replay => Some(Command::Quiet(Quiet::Replay(ReplayOptions {
+        CommandName::Replay => Some(Command::Quiet(Quiet::Replay(ReplayOptions {
             rounds: has(&find, Flag::Rounds),
             table: has(&find, Flag::Table),
         }))),
-        Name::Format => Some(Command::Quiet(Quiet::Format)),
-        Name::Gen => gen_with(
+        CommandName::Format => Some(Command::Quiet(Quiet::Format)),
+        CommandName::Gen => gen_with(
             number(&find, Kind::Alone),
             number(&find, Kind::Option(Numbered::Devices)),
             number(&find, Kind::Option(Numbered::Workers)),
         ),
-        Name::Trace => Some(Command::Quiet(Quiet::Trace)),
-        Name::Mail => Some(Command::Quiet(Quiet::Mail(MailOptions {
+        CommandName::Trace => Some(Command::Quiet(Quiet::Trace)),
+        CommandName::Mail => Some(Command::Quiet(Quiet::Mail(MailOptions {
             number: number(&find, Kind::Option(Numbered::Number)),
         }))),
     }
@@ -214,7 +214,7 @@ fn takes_all(name: CommandName, settings: &[Setting]) -> bool
 }
 
 /// The command of a name with its settings, if it takes them and nothing is set twice.
-pub fn command_of_settings(name: Name, settings: &[Setting]) -> Option<Command>
+pub fn command_of_settings(name: CommandName, settings: &[Setting]) -> Option<Command>
     ensures { result ≡ command_from name settings.now }
 {
     if takes_all(name, settings) && are_once(settings) {

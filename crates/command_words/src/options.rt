@@ -7,7 +7,7 @@ ghost use Rattle.command_words.specs.Options.{options_of, plain_app, rule_as};
 ghost use Rattle.command_words.specs.Settings.{flag_name};
 ghost use Rattle.command_words.specs.declared.settings.Setting.{Setting};
 
-use crate::choices::{Name, chosen, taken};
+use crate::choices::{CommandName, chosen, taken};
 use crate::commands;
 use crate::settings::{Flag, Kind, Setting};
 use clap::error::ErrorKind;
@@ -61,7 +61,7 @@ fn plain<'a>(alloc: Global, word: &'a str) -> Command<'a>
 }
 
 // The same with all that it takes.
-fn options<'a>(alloc: Global, name: Name, word: &'a str) -> Result<Command<'a>, AllocError>
+fn options<'a>(alloc: Global, name: CommandName, word: &'a str) -> Result<Command<'a>, AllocError>
     ensures { IfOk result (λ c. app_of c ≡ options_of name word.entry.now) }
 {
     let kinds = taken(name);
@@ -128,7 +128,7 @@ fn setting_in(matches: &ArgMatches, kind: Kind) -> Option<Setting>
 /// first.
 pub fn command_by_clap(
     alloc: Global,
-    name: Name,
+    name: CommandName,
     word: &str,
     words: &[String],
 ) -> Result<Option<commands::Command>, Memory>
