@@ -18,7 +18,7 @@ use Rattle.command_words.specs.declared.settings.Setting.{Setting}
 use Rattle.command_words.specs.declared.settings.Setting.TheVariants as set
 use Rattle.command_words.specs.Commands.{IsCommand, start_asked, start_from}
 use Rattle.command_words.specs.Settings.{are_once, found, id_of, kind_of, number_in, settings_of}
-use Rattle.command_words.specs.Words.{allows, asked, command_from, WordsAskForCommands, command_with, has, is_enough}
+use Rattle.command_words.specs.Words.{allows, asked, command_from, WordsAskForCommands, command_with, is_enough, is_set}
 use Rattle.command_words.specs.Words.{gen_with, name_of, number, takes}
 use Rattle.command_words.proofs.ClapWalk.{both}
 use Rattle.command_words.proofs.AllKinds.{found_kind}
@@ -86,8 +86,8 @@ chosen_enough : (n : CommandName) (settings : List Setting) → list_all (allows
     → IfSome (command_with n (λ k. found k settings)) IsCommand
 chosen_enough Check settings allowed =
     let look : Kind → Option Setting = λ k. found k settings in
-    checked (has look Facts) (has look Settle) (has look FromTable)
-    ((has look FromTable || has look Changes) && not (has look Settle)) (has look Changes)
+    checked (is_set look Facts) (is_set look Settle) (is_set look FromTable)
+    ((is_set look FromTable || is_set look Changes) && not (is_set look Settle)) (is_set look Changes)
 chosen_enough Stable settings allowed = tt
 chosen_enough Run settings allowed =
     record { some = least 1 4 _ (omega (arith)) (some_workers Run settings allowed); work = tt }

@@ -71,20 +71,20 @@ gen_with number devices workers =
     option_map (λ n. worked_by workers (work.Gen (record { number = n; devices = unwrap_or devices 64 }))) number
 
 -- whether a flag is set, and the number of an option or of one that stands alone, where settings are looked up so
-abbrev pub has : (Kind → Option Setting) → Flag → Bool
-has look flag = is_some (look (kind.Flag flag))
+abbrev pub is_set : (Kind → Option Setting) → Flag → Bool
+is_set look flag = is_some (look (kind.Flag flag))
 
 abbrev pub number : (Kind → Option Setting) → Kind → Option ℕ
 number look kind = option_and_then number_in (look kind)
 
 -- the command with what is set, and the defaults for the rest
 abbrev pub command_with : CommandName → (Kind → Option Setting) → Option Command
-command_with Check look = check_with (has look Facts) (has look Settle) (has look FromTable) (has look Changes)
+command_with Check look = check_with (is_set look Facts) (is_set look Settle) (is_set look FromTable) (is_set look Changes)
 command_with Stable look = Some (command.Quiet quiet.Stable)
 command_with Run look =
-    Some (worked_by (number look (kind.Option Workers)) (work.Run (record { log = has look Log; table = has look Table })))
+    Some (worked_by (number look (kind.Option Workers)) (work.Run (record { log = is_set look Log; table = is_set look Table })))
 command_with Replay look =
-    Some (command.Quiet (quiet.Replay (record { rounds = has look Rounds; table = has look Table })))
+    Some (command.Quiet (quiet.Replay (record { rounds = is_set look Rounds; table = is_set look Table })))
 command_with Format look = Some (command.Quiet quiet.Format)
 command_with Gen look =
     gen_with (number look kind.Alone) (number look (kind.Option Devices)) (number look (kind.Option Workers))
