@@ -9,7 +9,7 @@ use Rattle.std.specs.Option.{option_or}
 use Rattle.std.specs.Str.{bytes_eq}
 use Rattle.std.proofs.lemmas.Slice.Eq.{bytes_eq-Decides}
 use Rattle.clap.specs.Lexer.{long_of}
-use Rattle.clap.specs.Walk.{Held, Row, Walk, arg_by_id, first_of, nothing_held, one_of, row_text, settled, walk_from}
+use Rattle.clap.specs.Walk.{Held, Row, Walk, arg_by_id, nothing_held, row_text, settled, walk_from}
 use Rattle.clap.specs.Walk.{with_default}
 use Rattle.clap.specs.Simple.{App, Shape, built, matches_of}
 use Rattle.clap.specs.Takes.{settle_passes, takes}
@@ -310,7 +310,8 @@ option_read : (p : Numbered) (row default : Option Row) (o : Option Setting) →
 option_read p row default None e unread is = none_read (set.Option p) row default e unread
 option_read p row default (Some (set.Flag f)) e unread is = absurd (cc (is (set.Flag f) refl))
 option_read p row default (Some (set.Option q n)) e unread is =
-    some_read (set.Option p) (option_name q) row default n e ∙ ap (λ r. Some (set.Option r n)) (same (is (set.Option q n) refl))
+    some_read (set.Option p) (option_name q) row default n e
+    ∙ ap (λ r. Some (set.Option r n)) (same (is (set.Option q n) refl))
   where
     same : kind.Option q ≡ kind.Option p → p ≡ q
     same h = cc
@@ -360,7 +361,8 @@ module _ (app : App) (name : CommandName) (offers : Offers app name) where
         by_id = ap (λ (t : Entry). t.1) is ∙ ap (λ b. if b then Some (built_for k) else None) e;
       }
 
-  default_is : (k : Kind) → default_in (id_of k) top.rules ≡ (if words.takes name k then default_row (built_for k) else None)
+  default_is : (k : Kind)
+      → default_in (id_of k) top.rules ≡ (if words.takes name k then default_row (built_for k) else None)
   default_is k = ap (λ (t : Entry). t.2) (kind_offered app name offers k)
 
   module _ (h : Held) (look : List ℕ → Option Row)
@@ -370,7 +372,8 @@ module _ (app : App) (name : CommandName) (offers : Offers app name) where
 
     row_is : (id : List ℕ) → found_row id all_rows ≡ option_or (look id) (default_in id top.rules)
     row_is id =
-        found_defaults top.rules (settled top.rules h).rows id ∙ ap (λ o. option_or o (default_in id top.rules)) (rows id)
+        found_defaults top.rules (settled top.rules h).rows id
+        ∙ ap (λ o. option_or o (default_in id top.rules)) (rows id)
 
     are_read : (settings : List Setting) → Lists look (λ k. found k settings) → (k : Kind)
         → IsRead all_rows k (found k settings)
@@ -389,7 +392,8 @@ module _ (app : App) (name : CommandName) (offers : Offers app name) where
     are_read settings l kind.Alone =
         ap (number_read set.Alone) (row_is (codes "alone"))
         ∙ alone_read (look (codes "alone")) (default_in (codes "alone") top.rules) (found kind.Alone settings)
-        (l kind.Alone) (default_is kind.Alone ∙ no_default (words.takes name kind.Alone)) (found_kind kind.Alone settings)
+        (l kind.Alone) (default_is kind.Alone ∙ no_default (words.takes name kind.Alone))
+        (found_kind kind.Alone settings)
 
   takes_between : (h : Held) (place : ℕ) → settle_passes top.rules top.args_override_self h ≡ true
       → takes_from app (between h place) true ≡ true

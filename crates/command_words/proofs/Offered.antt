@@ -1,5 +1,5 @@
 -- The arguments of a command, one for each kind that it takes.
-use Rattle.std.proofs.Common.{ℕ, ◌≡◌, Bool, true, false, ◌&&◌, if◌then◌else◌, List, map, refl, ap, Option, Some, None}
+use Rattle.std.proofs.Common.{◌≡◌, Bool, true, false, if◌then◌else◌, List, map, Option, Some, None}
 use Rattle.std.specs.List.{list_all}
 use Rattle.clap.specs.Simple.{App, built, filled, is_simple, with_index}
 use Rattle.clap.specs.Takes.{default_passes, is_valid}

@@ -14,8 +14,8 @@ use Rattle.command_words.specs.declared.settings.Flag.{Flag}
 use Rattle.command_words.specs.declared.settings.Setting.{Setting}
 use Rattle.command_words.specs.declared.settings.Setting.TheVariants as set
 use Rattle.command_words.specs.declared.settings.Numbered.{Numbered}
-use Rattle.command_words.specs.Settings.{all_flags, all_options, attached, before, flag_name, flag_of, hyphened, is_equals, option_name}
-use Rattle.command_words.specs.Settings.{option_of, setting_of, settings_of, numbered_setting}
+use Rattle.command_words.specs.Settings.{all_flags, all_options, attached, before, flag_name, flag_of, hyphened, is_equals}
+use Rattle.command_words.specs.Settings.{option_name, option_of, setting_of, settings_of, numbered_setting}
 use Rattle.command_words.proofs.AllKinds.{find_passes}
 
 -- a word that writes a number

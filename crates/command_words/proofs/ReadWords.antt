@@ -7,7 +7,8 @@ use Rattle.clap.specs.Walk.{Row}
 use Rattle.clap.specs.Words.{is_simple}
 use Rattle.clap.proofs.OnLiterals.{clap_on_literals}
 use Rattle.command_words.specs.declared.choices.CommandName.{CommandName}
-use Rattle.command_words.specs.declared.choices.CommandName.TheVariants.{Check, Stable, Run, Replay, Format, Gen, Trace, Mail}
+use Rattle.command_words.specs.declared.choices.CommandName.TheVariants.{Check, Stable, Run, Replay, Format, Gen}
+use Rattle.command_words.specs.declared.choices.CommandName.TheVariants.{Trace, Mail}
 use Rattle.command_words.specs.Options.{asked_of, options_of, plain_app}
 use Rattle.command_words.specs.Words.{takes}
 use Rattle.command_words.proofs.AllKinds.{all_kinds}

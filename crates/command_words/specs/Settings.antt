@@ -6,7 +6,8 @@ use Rattle.std.specs.Str.{bytes_eq}
 use Rattle.std.specs.Option.{option_or}
 use Rattle.fc_values.specs.Numbers.{number_of}
 use Rattle.command_words.specs.declared.settings.Flag.{Flag}
-use Rattle.command_words.specs.declared.settings.Flag.TheVariants.{Facts, Settle, FromTable, Changes, Log, Table, Rounds}
+use Rattle.command_words.specs.declared.settings.Flag.TheVariants.{Facts, Settle, FromTable, Changes, Log, Table}
+use Rattle.command_words.specs.declared.settings.Flag.TheVariants.{Rounds}
 use Rattle.command_words.specs.declared.settings.Kind.{Kind}
 use Rattle.command_words.specs.declared.settings.Kind.TheVariants as kind
 use Rattle.command_words.specs.declared.settings.Setting.{Setting}

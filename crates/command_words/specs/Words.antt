@@ -1,6 +1,6 @@
 -- The command that the words of a command line ask for.
-use Rattle.std.specs.Prelude.{ℕ, ◌≡◌, Bool, true, false, ◌&&◌, ◌||◌, not, nat_le, is_some, if◌then◌else◌, List, [], ◌∷◌, codes}
-use Rattle.std.specs.Prelude.{IfSome, Option, Some, None, option_map, option_and_then, unwrap_or}
+use Rattle.std.specs.Prelude.{ℕ, ◌≡◌, Bool, true, ◌&&◌, ◌||◌, not, nat_le, is_some, if◌then◌else◌, List, []}
+use Rattle.std.specs.Prelude.{◌∷◌, codes, IfSome, Option, Some, None, option_map, option_and_then, unwrap_or}
 use Rattle.std.specs.List.{list_all, list_any}
 use Rattle.std.specs.Str.{bytes_eq}
 use Rattle.command_words.specs.declared.commands.Command.{Command}
@@ -9,9 +9,11 @@ use Rattle.command_words.specs.declared.commands.Quiet.TheVariants as quiet
 use Rattle.command_words.specs.declared.commands.Work.{Work}
 use Rattle.command_words.specs.declared.commands.Work.TheVariants as work
 use Rattle.command_words.specs.declared.choices.CommandName.{CommandName}
-use Rattle.command_words.specs.declared.choices.CommandName.TheVariants.{Check, Stable, Run, Replay, Format, Gen, Trace, Mail}
+use Rattle.command_words.specs.declared.choices.CommandName.TheVariants.{Check, Stable, Run, Replay, Format, Gen}
+use Rattle.command_words.specs.declared.choices.CommandName.TheVariants.{Trace, Mail}
 use Rattle.command_words.specs.declared.settings.Flag.{Flag}
-use Rattle.command_words.specs.declared.settings.Flag.TheVariants.{Facts, Settle, FromTable, Changes, Log, Table, Rounds}
+use Rattle.command_words.specs.declared.settings.Flag.TheVariants.{Facts, Settle, FromTable, Changes, Log, Table}
+use Rattle.command_words.specs.declared.settings.Flag.TheVariants.{Rounds}
 use Rattle.command_words.specs.declared.settings.Kind.{Kind}
 use Rattle.command_words.specs.declared.settings.Kind.TheVariants as kind
 use Rattle.command_words.specs.declared.settings.Numbered.TheVariants.{Workers, Devices, Number}
@@ -79,10 +81,12 @@ number look kind = option_and_then number_in (look kind)
 
 -- the command with what is set, and the defaults for the rest
 abbrev pub command_with : CommandName → (Kind → Option Setting) → Option Command
-command_with Check look = check_with (is_set look Facts) (is_set look Settle) (is_set look FromTable) (is_set look Changes)
+command_with Check look =
+    check_with (is_set look Facts) (is_set look Settle) (is_set look FromTable) (is_set look Changes)
 command_with Stable look = Some (command.Quiet quiet.Stable)
 command_with Run look =
-    Some (worked_by (number look (kind.Option Workers)) (work.Run (record { log = is_set look Log; table = is_set look Table })))
+    Some (worked_by (number look (kind.Option Workers))
+    (work.Run (record { log = is_set look Log; table = is_set look Table })))
 command_with Replay look =
     Some (command.Quiet (quiet.Replay (record { rounds = is_set look Rounds; table = is_set look Table })))
 command_with Format look = Some (command.Quiet quiet.Format)
@@ -98,7 +102,8 @@ Finds Call look = (kind : Kind) (s : Option Setting) → Call kind s → s ≡ l
 -- the command of a name with its settings, if it takes each of them and nothing is set twice
 abbrev pub command_from : CommandName → List Setting → Option Command
 command_from name settings =
-    if list_all (allows name) settings && are_once settings then command_with name (λ kind. found kind settings) else None
+    if list_all (allows name) settings && are_once settings then command_with name (λ kind. found kind settings)
+    else None
 
 abbrev pub asked : Option CommandName → Option (List Setting) → Option Command
 asked (Some name) (Some settings) = command_from name settings

@@ -3,8 +3,8 @@
 ghost use Rattle.std.specs.Prelude.{◌≡◌, is_some, option_and_then};
 ghost use Rattle.std.specs.List.{list_all};
 ghost use Rattle.command_words.specs.Settings.{number_in};
-ghost use Rattle.command_words.specs.Words.{Finds, allows, check_with, command_from, command_with, gen_with, is_enough, name_of, taken, takes};
-ghost use Rattle.command_words.specs.Words.{worked_by};
+ghost use Rattle.command_words.specs.Words.{Finds, allows, check_with, command_from, command_with, gen_with, is_enough};
+ghost use Rattle.command_words.specs.Words.{name_of, taken, takes, worked_by};
 ghost use Rattle.command_words.specs.declared.settings.Kind.TheVariants as kinds;
 
 use crate::commands::{

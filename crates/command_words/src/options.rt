@@ -98,7 +98,8 @@ fn number_in(matches: &ArgMatches, id: &str) -> Option<u32>
 
 // A flag that `clap` has read.
 fn flag_in(matches: &ArgMatches, flag: Flag) -> Option<Setting>
-    ensures { (s : Option Setting) → IsFlag (one_of (flag_name flag) (rows_of (found_of matches.now))) flag s → result ≡ s }
+    ensures { (s : Option Setting) → IsFlag (one_of (flag_name flag) (rows_of (found_of matches.now))) flag s
+        → result ≡ s }
 {
     if matches.get_flag(flag.name()) {
         Some(Setting::Flag(flag))

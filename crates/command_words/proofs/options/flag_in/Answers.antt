@@ -1,5 +1,6 @@
-use Rattle.std.proofs.Common.{ℕ, ◌≡◌, Bool, true, false, if◌then◌else◌, List, codes, refl, sym, ap, subst, ◌∙◌, Option, Some, None}
-use Rattle.clap.specs.Words.{found_of, one_of, one_text, rows_of}
+use Rattle.std.proofs.Common.{ℕ, ◌≡◌, Bool, true, false, if◌then◌else◌, List, codes}
+use Rattle.std.proofs.Common.{refl, sym, ap, subst, ◌∙◌, Option, Some, None}
+use Rattle.clap.specs.Words.{found_of, one_text}
 use Rattle.clap.proofs.WalkLemmas.{one_text-rows}
 use Rattle.command_words.specs.declared.settings.Flag.{Flag}
 use Rattle.command_words.specs.declared.settings.Setting.{Setting}

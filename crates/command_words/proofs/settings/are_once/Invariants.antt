@@ -1,4 +1,4 @@
-use Rattle.std.proofs.Common.{ℕ, ◌≡◌, length}
+use Rattle.std.proofs.Common.{◌≡◌, length}
 use Rattle.command_words.specs.Settings.{are_once}
 use Rattle.command_words.proofs.settings.are_once.Given as goal
 
