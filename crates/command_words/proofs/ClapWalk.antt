@@ -19,7 +19,7 @@ use Rattle.clap.specs.Walk.{subcommand_or_other, value, walk, walk_from, walked,
 use Rattle.fc_values.specs.Numbers.{is_number, number_of}
 use Rattle.command_words.proofs.Pieces.{Digits, Word, digits, digits_text, spelled, word_text}
 
-both : (a b : Bool) → (a && b) ≡ true → (a ≡ true) × (b ≡ true)
+pub both : (a b : Bool) → (a && b) ≡ true → (a ≡ true) × (b ≡ true)
 both true true e = (refl, refl)
 both true false e = cc
 both false b e = cc

@@ -1,5 +1,6 @@
 mod Apps
 mod Taken
+mod AllKinds
 mod Pieces
 mod ClapWalk
 mod Rows
@@ -7,6 +8,5 @@ mod Steps
 mod Offered
 mod Listed
 mod ReadWords
-mod SameChoices
 mod AskedWords
 mod Enough

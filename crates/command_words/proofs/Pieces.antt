@@ -1,7 +1,7 @@
 -- The words that set something, piece by piece: a flag, an option with its number in one word or two, or a number.
 use Rattle.std.proofs.Common.{ℕ, ◌≡◌, ◌+◌, ◌<◌, ◌≤◌, Bool, true, false, if◌then◌else◌, is_some}
-use Rattle.std.proofs.Common.{List, [], ◌∷◌, ◌++◌, map, length, get_or, codes, nat_lt}
-use Rattle.std.proofs.Common.{refl, sym, ap, ap₂, ◌∙◌, arith, Option, Some, None, option_map}
+use Rattle.std.proofs.Common.{List, [], ◌∷◌, ◌++◌, map, length, get_or, nat_lt}
+use Rattle.std.proofs.Common.{refl, sym, ap, ap₂, ◌∙◌, subst, arith, Option, Some, None, option_map}
 use Rattle.std.specs.List.{before_first, after_first, position_or_len}
 use Rattle.std.specs.Option.{option_or}
 use Rattle.std.specs.Str.{bytes_eq}
@@ -10,12 +10,13 @@ use Rattle.std.proofs.lemmas.List.{drop_all}
 use Rattle.std.proofs.lemmas.List.Sums.{passes_at_first, split_at_first}
 use Rattle.std.proofs.lemmas.Slice.Eq.{bytes_eq-Decides}
 use Rattle.fc_values.specs.Numbers.{number_of}
+use Rattle.command_words.specs.declared.settings.Flag.{Flag}
 use Rattle.command_words.specs.declared.settings.Setting.{Setting}
 use Rattle.command_words.specs.declared.settings.Setting.TheVariants as set
 use Rattle.command_words.specs.declared.settings.Numbered.{Numbered}
-use Rattle.command_words.specs.declared.settings.Numbered.TheVariants.{Workers, Devices, Number}
-use Rattle.command_words.specs.Settings.{attached, before, flag_of, is_equals, option_of, setting_of, settings_of}
-use Rattle.command_words.specs.Settings.{numbered_setting}
+use Rattle.command_words.specs.Settings.{all_flags, all_options, attached, before, flag_name, flag_of, hyphened, is_equals}
+use Rattle.command_words.specs.Settings.{option_name, option_of, setting_of, settings_of, numbered_setting}
+use Rattle.command_words.proofs.AllKinds.{find_passes}
 
 -- a word that writes a number
 pub record Digits : Type 0 where
@@ -29,13 +30,7 @@ digits_text d = d.first ∷ d.rest
 
 -- what sets something, but for the number
 pub data Piece : Type 0 where
-  facts : Piece
-  settle : Piece
-  from_table : Piece
-  changes : Piece
-  log : Piece
-  table : Piece
-  rounds : Piece
+  flagged : Flag → Piece
   apart : Numbered → Piece
   joined : Numbered → Piece
   alone : Piece
@@ -49,31 +44,14 @@ abbrev pub word_text : Word → List ℕ
 word_text (spelled text) = text
 word_text (digits d) = digits_text d
 
-abbrev pub option_name : Numbered → List ℕ
-option_name Workers = codes "--workers"
-option_name Devices = codes "--devices"
-option_name Number = codes "--number"
-
 abbrev pub words_by : Piece → Digits → List Word
-words_by facts d = spelled (codes "--facts") ∷ []
-words_by settle d = spelled (codes "--settle") ∷ []
-words_by from_table d = spelled (codes "--from-table") ∷ []
-words_by changes d = spelled (codes "--changes") ∷ []
-words_by log d = spelled (codes "--log") ∷ []
-words_by table d = spelled (codes "--table") ∷ []
-words_by rounds d = spelled (codes "--rounds") ∷ []
-words_by (apart o) d = spelled (option_name o) ∷ digits d ∷ []
-words_by (joined o) d = spelled (option_name o ++ 61 ∷ digits_text d) ∷ []
+words_by (flagged f) d = spelled (hyphened (flag_name f)) ∷ []
+words_by (apart o) d = spelled (hyphened (option_name o)) ∷ digits d ∷ []
+words_by (joined o) d = spelled (hyphened (option_name o) ++ 61 ∷ digits_text d) ∷ []
 words_by alone d = digits d ∷ []
 
 abbrev pub setting_by : Piece → Digits → Setting
-setting_by facts d = set.Facts
-setting_by settle d = set.Settle
-setting_by from_table d = set.FromTable
-setting_by changes d = set.Changes
-setting_by log d = set.Log
-setting_by table d = set.Table
-setting_by rounds d = set.Rounds
+setting_by (flagged f) d = set.Flag f
 setting_by (apart o) d = set.Option o d.value
 setting_by (joined o) d = set.Option o d.value
 setting_by alone d = set.Alone d.value
@@ -122,53 +100,29 @@ are_digits (x ∷ xs) n e = record {
 abbrev pub one : Digits
 one = record { first = 49; rest = []; value = 1; writes = refl }
 
--- ---- flags
+-- ---- names
 same : (s t : Setting) → Some s ≡ Some t → s ≡ t
 same s t e = cc
 
-if_flag : (word spelled_so : List ℕ) (piece : Piece) (s : Setting) (rest : Option Setting)
-    → spelled_so ∷ [] ≡ map word_text (words_by piece one) → (rest ≡ Some s → IsWritten word s)
-    → (if bytes_eq word spelled_so then Some (setting_by piece one) else rest) ≡ Some s → IsWritten word s
-if_flag word spelled_so piece s rest is further e = go (bytes_eq word spelled_so) refl e
-  where
-    go : (b : Bool) → bytes_eq word spelled_so ≡ b → (if b then Some (setting_by piece one) else rest) ≡ Some s
-        → IsWritten word s
-    go true p h = record {
-      piece = piece;
-      its = one;
-      word_is = ap (λ w. w ∷ []) ((bytes_eq-Decides word spelled_so).0 p) ∙ is;
-      setting_is = same s (setting_by piece one) (sym h);
-    }
-    go false p h = further h
+flag_named : (word : List ℕ) (f : Flag) → flag_of word ≡ Some f → word ≡ hyphened (flag_name f)
+unfolding flag_of
+flag_named word f e =
+    sym ((bytes_eq-Decides (hyphened (flag_name f)) word).0
+    (find_passes (λ g. bytes_eq (hyphened (flag_name g)) word) all_flags f e))
 
-flag_written : (word : List ℕ) (s : Setting) → flag_of word ≡ Some s → IsWritten word s
-flag_written word s =
-    if_flag word (codes "--facts") facts s _ refl
-    (if_flag word (codes "--settle") settle s _ refl
-    (if_flag word (codes "--from-table") from_table s _ refl
-    (if_flag word (codes "--changes") changes s _ refl
-    (if_flag word (codes "--log") log s _ refl
-    (if_flag word (codes "--table") table s _ refl
-    (if_flag word (codes "--rounds") rounds s _ refl (λ e. cc)))))))
+option_named : (word : List ℕ) (o : Numbered) → option_of word ≡ Some o → word ≡ hyphened (option_name o)
+unfolding option_of
+option_named word o e =
+    sym ((bytes_eq-Decides (hyphened (option_name o)) word).0
+    (find_passes (λ p. bytes_eq (hyphened (option_name p)) word) all_options o e))
 
--- ---- options
-if_option : (word name : List ℕ) (o p : Numbered) (rest : Option Numbered) → name ≡ option_name p
-    → (rest ≡ Some o → word ≡ option_name o) → (if bytes_eq word name then Some p else rest) ≡ Some o
-    → word ≡ option_name o
-if_option word name o p rest is further e = go (bytes_eq word name) refl e
-  where
-    same_option : Some p ≡ Some o → p ≡ o
-    same_option h = cc
-
-    go : (b : Bool) → bytes_eq word name ≡ b → (if b then Some p else rest) ≡ Some o → word ≡ option_name o
-    go true q h = (bytes_eq-Decides word name).0 q ∙ is ∙ ap option_name (same_option h)
-    go false q h = further h
-
-option_named : (word : List ℕ) (o : Numbered) → option_of word ≡ Some o → word ≡ option_name o
-option_named word o =
-    if_option word (codes "--workers") o Workers _ refl
-    (if_option word (codes "--devices") o Devices _ refl
-    (if_option word (codes "--number") o Number _ refl (λ e. cc)))
+flag_written : (word : List ℕ) (f : Flag) → flag_of word ≡ Some f → IsWritten word (set.Flag f)
+flag_written word f e = record {
+  piece = flagged f;
+  its = one;
+  word_is = ap (λ w. w ∷ []) (flag_named word f e);
+  setting_is = refl;
+}
 
 -- a word with something after its first `=`
 some_after : (word : List ℕ) (x : ℕ) (xs : List ℕ) → after_first is_equals word ≡ x ∷ xs
@@ -229,9 +183,10 @@ word_written word s e = by_flag (flag_of word) refl e
     by_joined (Some t) p h = joined_written word s _ _ refl refl (p ∙ h)
     by_joined None p h = alone_written word s (number_of word) refl h
 
-    by_flag : (o : Option Setting) → flag_of word ≡ o
-        → option_or o (option_or (attached word) (option_map set.Alone (number_of word))) ≡ Some s → IsWritten word s
-    by_flag (Some t) p h = flag_written word s (p ∙ h)
+    by_flag : (o : Option Flag) → flag_of word ≡ o
+        → option_or (option_map set.Flag o) (option_or (attached word) (option_map set.Alone (number_of word))) ≡ Some s
+        → IsWritten word s
+    by_flag (Some f) p h = subst (IsWritten word) (same (set.Flag f) s h) (flag_written word f p)
     by_flag None p h = by_joined (attached word) refl h
 
 -- ---- all the words
@@ -263,7 +218,7 @@ two_more word next words o n ss settings p q e further =
     record {
       written = (apart o, d.its) ∷ further.written;
       words_are = ap₂ (λ (a b : List ℕ). a ∷ b ∷ words) (option_named word o p) d.word_is
-          ∙ ap (λ (ws : List (List ℕ)). option_name o ∷ digits_text d.its ∷ ws) further.words_are;
+          ∙ ap (λ (ws : List (List ℕ)). hyphened (option_name o) ∷ digits_text d.its ∷ ws) further.words_are;
       settings_are = sym (same_all (set.Option o n ∷ ss) settings e)
           ∙ ap₂ (λ (v : ℕ) (ts : List Setting). set.Option o v ∷ ts) (sym d.value_is) further.settings_are;
     }

@@ -15,7 +15,7 @@ use Rattle.clap.specs.declared.parser.matches.ValueSource.TheVariants.{CommandLi
 use Rattle.command_words.specs.Options.{alone_rule, flag_rule, number_rule}
 use Rattle.command_words.proofs.ClapWalk.{digits_from, digits_pass}
 use Rattle.command_words.proofs.Pieces.{Digits, digits_text}
-use Rattle.command_words.proofs.Rows.{found, found_used, no_row, row_with}
+use Rattle.command_words.proofs.Rows.{found_row, found_used, no_row, row_with}
 
 -- ---- the arguments as `clap` builds them
 abbrev pub built_flag : List ℕ → Rule
@@ -25,7 +25,7 @@ abbrev pub built_number : List ℕ → Rule
 built_number name = with_index 1 (filled (number_rule name))
 
 abbrev pub built_alone : Rule
-built_alone = with_index 1 (filled alone_rule)
+built_alone = with_index 1 (filled (alone_rule (codes "alone")))
 
 abbrev pub flag_row : List ℕ → Row
 flag_row name = row_with name (reading_by (built_flag name)) CommandLine (codes "true" ∷ [])
@@ -50,7 +50,7 @@ between h position = record {
 pub record Stands (s : Shape) (w : Walk) (look : List ℕ → Option Row) (position : ℕ) : Type 0 where
   pub held : Held
   pub is : w ≡ between held position
-  pub rows : (id : List ℕ) → found id (settled s.rules held).rows ≡ look id
+  pub rows : (id : List ℕ) → found_row id (settled s.rules held).rows ≡ look id
   pub passes : settle_passes s.rules s.args_override_self held ≡ true
 
 pub and_true : (a b : Bool) → a ≡ true → b ≡ true → (a && b) ≡ true
@@ -156,7 +156,7 @@ module _ (s : Shape) where
       → arg_by_id s.rules name ≡ Some a → ((rows : List Row) → use_passes again a (digits ∷ []) rows
       ≡ use_passes again (built_number name) (digits ∷ []) rows)
       → ((rows : List Row) → used a (digits ∷ []) rows ≡ used (built_number name) (digits ∷ []) rows)
-      → ((id : List ℕ) → found id (settled s.rules h).rows ≡ look id) → look name ≡ None → (w : Walk)
+      → ((id : List ℕ) → found_row id (settled s.rules h).rows ≡ look id) → look name ≡ None → (w : Walk)
       → w ≡ between (record (settled s.rules h) { pending = Some (name, digits ∷ []) }) position
       → Stands s w (with_row (number_row name digits) look) position
   pending_stands name digits h look position a at passes uses rows new w is =
@@ -164,8 +164,8 @@ module _ (s : Shape) where
       record {
         held = record (settled s.rules h) { pending = Some (name, digits ∷ []) };
         is = is;
-        rows = λ id. ap (λ o. found id (used_by_id o (digits ∷ []) (settled s.rules h).rows)) at
-            ∙ ap (found id) (uses (settled s.rules h).rows)
+        rows = λ id. ap (λ o. found_row id (used_by_id o (digits ∷ []) (settled s.rules h).rows)) at
+            ∙ ap (found_row id) (uses (settled s.rules h).rows)
             ∙ found_used name _ CommandLine _ (settled s.rules h).rows id none
             ∙ ap (λ o. if bytes_eq name id then Some (number_row name digits) else o) (rows id);
         passes = ap (λ o. option_map_or (λ b. use_passes again b (digits ∷ []) (settled s.rules h).rows) o true) at

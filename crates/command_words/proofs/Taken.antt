@@ -1,6 +1,6 @@
 -- How the settings of words are read, word by word.
 use Rattle.std.proofs.Math.Seq.{drop-cons}
-use Rattle.std.proofs.Common.{ℕ, suc, ◌≡◌, ◌+◌, ◌<◌, map, drop, length, slice_index_or, add-one, List, [], ◌∷◌, ◌++◌, refl, sym, ap, ◌∙◌, Option, Some, None, option_map, append_assoc}
+use Rattle.std.proofs.Common.{ℕ, ◌≡◌, ◌+◌, ◌<◌, map, drop, length, slice_index_or, add-one, List, [], ◌∷◌, ◌++◌, refl, sym, ap, ◌∙◌, Option, Some, None, option_map, append_assoc}
 use Rattle.command_words.specs.declared.settings.Setting.{Setting}
 use Rattle.command_words.specs.declared.settings.Numbered.{Numbered}
 use Rattle.command_words.specs.declared.settings.Setting.TheVariants as set
@@ -57,6 +57,10 @@ sets_nothing read word left words e n t =
     ∙ ap (λ m. option_map (λ more. read ++ more) (before m (settings_of words))) (sym t)
 
 -- the list from an index on is the element there and the list after it
+pub front_at : {A B : Type 0} (f : A → B) (words : List A) (i : ℕ) (d : A) → i < length words
+    → map f (drop i words) ≡ f (slice_index_or words i d) ∷ map f (drop (i + 1) words)
+front_at f words i d h = rw add-one (ap (map f) (drop-cons words i d h))
+
 pub front : {A : Type 0} (f : A → List ℕ) (words : List A) (i : ℕ) (word : A) → i < length words → word ≡ slice_index_or words i word
     → map f (drop i words) ≡ f word ∷ map f (drop (i + 1) words)
-front f words i word h is = rw add-one (ap (map f) (drop-cons words i word h) ∙ ap (λ w. f w ∷ map f (drop (suc i) words)) (sym is))
+front f words i word h is = front_at f words i word h ∙ ap (λ w. f w ∷ map f (drop (i + 1) words)) (sym is)

@@ -1,15 +1,17 @@
 //! The commands' names, and the settings that each of them takes.
 
-ghost use Rattle.std.specs.Prelude.{◌≡◌};
+ghost use Rattle.std.specs.Prelude.{◌≡◌, is_some, option_and_then};
 ghost use Rattle.std.specs.List.{list_all};
-ghost use Rattle.command_words.specs.Words.{all_set, allows, check_with, command_from, command_with, name_of};
-ghost use Rattle.command_words.specs.Words.{no_choices, with_setting, worked_by};
+ghost use Rattle.command_words.specs.Settings.{number_in};
+ghost use Rattle.command_words.specs.Words.{Finds, allows, check_with, command_from, command_with, gen_with, is_enough};
+ghost use Rattle.command_words.specs.Words.{name_of, taken, takes, worked_by};
+ghost use Rattle.command_words.specs.declared.settings.Kind.TheVariants as kinds;
 
 use crate::commands::{
     ChangesOptions, CheckOptions, Command, GenOptions, MailOptions, Quiet, ReplayOptions,
     RunOptions, Threaded, Work, start_asked, start_from,
 };
-use crate::settings::{Numbered, Setting};
+use crate::settings::{Flag, Kind, Numbered, Setting, are_once, found};
 
 /// The name of a command.
 #[derive(Clone, Copy, Debug, PartialEq, Eq)]
@@ -22,22 +24,6 @@ pub enum CommandName {
     Gen,
     Trace,
     Mail,
-}
-
-/// Which settings are there, each at most once.
-#[derive(Clone, Copy, Debug, PartialEq, Eq)]
-pub struct Choices {
-    pub facts: bool,
-    pub settle: bool,
-    pub from_table: bool,
-    pub changes: bool,
-    pub log: bool,
-    pub table: bool,
-    pub rounds: bool,
-    pub workers: Option<u32>,
-    pub devices: Option<u32>,
-    pub number: Option<u32>,
-    pub alone: Option<u32>,
 }
 
 /// The command that a word names.
@@ -71,102 +57,56 @@ pub fn named(word: &str) -> Option<CommandName>
     None
 }
 
-// Whether a command takes a setting.
-fn takes(name: CommandName, setting: Setting) -> bool
-    ensures { result ≡ allows name setting }
+/// What a command takes.
+pub fn taken(name: CommandName) -> &'static [Kind]
+    ensures { result.now ≡ taken name }
 {
-    match (name, setting) {
-        (CommandName::Check, Setting::Facts) => true,
-        (CommandName::Check, Setting::Settle) => true,
-        (CommandName::Check, Setting::FromTable) => true,
-        (CommandName::Check, Setting::Changes) => true,
-        (CommandName::Run, Setting::Option(Numbered::Workers, count)) => 1 <= count,
-        (CommandName::Run, Setting::Log) => true,
-        (CommandName::Run, Setting::Table) => true,
-        (CommandName::Replay, Setting::Rounds) => true,
-        (CommandName::Replay, Setting::Table) => true,
-        (CommandName::Gen, Setting::Alone(_)) => true,
-        (CommandName::Gen, Setting::Option(Numbered::Devices, count)) => 3 <= count,
-        (CommandName::Gen, Setting::Option(Numbered::Workers, count)) => 1 <= count,
-        (CommandName::Mail, Setting::Option(Numbered::Number, _)) => true,
-        _ => false,
+    match name {
+        CommandName::Check => &[
+            Kind::Flag(Flag::Facts),
+            Kind::Flag(Flag::Settle),
+            Kind::Flag(Flag::FromTable),
+            Kind::Flag(Flag::Changes),
+        ],
+        CommandName::Run => &[
+            Kind::Option(Numbered::Workers),
+            Kind::Flag(Flag::Log),
+            Kind::Flag(Flag::Table),
+        ],
+        CommandName::Replay => &[Kind::Flag(Flag::Rounds), Kind::Flag(Flag::Table)],
+        CommandName::Gen => &[
+            Kind::Alone,
+            Kind::Option(Numbered::Devices),
+            Kind::Option(Numbered::Workers),
+        ],
+        CommandName::Mail => &[Kind::Option(Numbered::Number)],
+        CommandName::Stable | CommandName::Format | CommandName::Trace => &[],
     }
 }
 
-// The choices with one setting more, if it isn't there yet.
-fn with(choices: Choices, setting: Setting) -> Option<Choices>
-    ensures { result ≡ with_setting setting choices }
+// Whether the number of a setting is great enough.
+fn is_enough(setting: Setting) -> bool
+    ensures { result ≡ is_enough setting }
 {
     match setting {
-        Setting::Facts if !choices.facts => Some(Choices {
-            facts: true,
-            ..choices
-        }),
-        Setting::Settle if !choices.settle => Some(Choices {
-            settle: true,
-            ..choices
-        }),
-        Setting::FromTable if !choices.from_table => Some(Choices {
-            from_table: true,
-            ..choices
-        }),
-        Setting::Changes if !choices.changes => Some(Choices {
-            changes: true,
-            ..choices
-        }),
-        Setting::Log if !choices.log => Some(Choices {
-            log: true,
-            ..choices
-        }),
-        Setting::Table if !choices.table => Some(Choices {
-            table: true,
-            ..choices
-        }),
-        Setting::Rounds if !choices.rounds => Some(Choices {
-            rounds: true,
-            ..choices
-        }),
-        Setting::Option(Numbered::Workers, count) if choices.workers.is_none() => Some(Choices {
-            workers: Some(count),
-            ..choices
-        }),
-        Setting::Option(Numbered::Devices, count) if choices.devices.is_none() => Some(Choices {
-            devices: Some(count),
-            ..choices
-        }),
-        Setting::Option(Numbered::Number, number) if choices.number.is_none() => Some(Choices {
-            number: Some(number),
-            ..choices
-        }),
-        Setting::Alone(number) if choices.alone.is_none() => Some(Choices {
-            alone: Some(number),
-            ..choices
-        }),
-        _ => None,
+        Setting::Option(Numbered::Workers, count) => 1 <= count,
+        Setting::Option(Numbered::Devices, count) => 3 <= count,
+        _ => true,
     }
 }
 
-// All the settings, if none of them stands twice.
-fn collected(settings: &[Setting]) -> Option<Choices>
-    ensures { result ≡ all_set no_choices settings.now }
+// Whether a command takes a kind.
+fn takes(name: CommandName, kind: Kind) -> bool
+    ensures { result ≡ takes name kind }
 {
-    let mut choices = Choices {
-        facts: false,
-        settle: false,
-        from_table: false,
-        changes: false,
-        log: false,
-        table: false,
-        rounds: false,
-        workers: None,
-        devices: None,
-        number: None,
-        alone: None,
-    };
-    'settings: for setting in settings {
-        choices = with(choices, *setting)?;
-    }
-    Some(choices)
+    taken(name).iter().any(|other| other.id() == kind.id())
+}
+
+// Whether a command takes a setting.
+fn allowed(name: CommandName, setting: Setting) -> bool
+    ensures { result ≡ allows name setting }
+{
+    takes(name, setting.kind()) && is_enough(setting)
 }
 
 // The `check` of its flags: `--from-table` and `--changes` stand beside `--settle` only.
@@ -198,38 +138,71 @@ fn worked_by(workers: Option<u32>, work: Work) -> Command
     })
 }
 
-/// The command with what is chosen, and the defaults for the rest.
-pub fn chosen(name: CommandName, choices: Choices) -> Option<Command>
-    ensures { result ≡ command_with name choices }
+// The scenario of a number, on 64 devices if nothing else is chosen.
+fn gen_with(number: Option<u32>, devices: Option<u32>, workers: Option<u32>) -> Option<Command>
+    ensures { result ≡ gen_with number devices workers }
 {
-    let Choices {
-        facts,
-        settle,
-        from_table,
-        changes,
-        log,
-        table,
-        rounds,
-        workers,
-        devices,
-        number,
-        alone,
-    } = choices;
+    let options = GenOptions {
+        number: number?,
+        devices: devices.unwrap_or(64),
+    };
+    Some(worked_by(workers, Work::Gen(options)))
+}
+
+// Whether a flag is found.
+fn has<F: Fn(Kind) -> Option<Setting>>(find: &F, flag: Flag) -> bool
+    requires { F.IsAlwaysCallable find.now }
+    ensures { (look : _) → Finds (F.post find.now) look → result ≡ is_some (look (kinds.Flag flag)) }
+{
+    find(Kind::Flag(flag)).is_some()
+}
+
+// The number that is found.
+fn number<F: Fn(Kind) -> Option<Setting>>(find: &F, kind: Kind) -> Option<u32>
+    requires { F.IsAlwaysCallable find.now }
+    ensures { (look : _) → Finds (F.post find.now) look → result ≡ option_and_then number_in (look kind) }
+{
+    match find(kind) {
+        Some(setting) => setting.number(),
+        None => None,
+    }
+}
+
+/// The command with the settings that are found, and the defaults for the rest.
+pub fn chosen<F: Fn(Kind) -> Option<Setting>>(name: CommandName, find: F) -> Option<Command>
+    requires { F.IsAlwaysCallable find }
+    ensures { (look : _) → Finds (F.post find) look → result ≡ command_with name look }
+{
     match name {
-        CommandName::Check => check_with(facts, settle, from_table, changes),
+        CommandName::Check => check_with(
+            has(&find, Flag::Facts),
+            has(&find, Flag::Settle),
+            has(&find, Flag::FromTable),
+            has(&find, Flag::Changes),
+        ),
         CommandName::Stable => Some(Command::Quiet(Quiet::Stable)),
-        CommandName::Run => Some(worked_by(workers, Work::Run(RunOptions { log, table }))),
-        CommandName::Replay => Some(Command::Quiet(Quiet::Replay(ReplayOptions { rounds, table }))),
-        CommandName::Format => Some(Command::Quiet(Quiet::Format)),
-        CommandName::Gen => {
-            let options = GenOptions {
-                number: alone?,
-                devices: devices.unwrap_or(64),
+        CommandName::Run => {
+            let options = RunOptions {
+                log: has(&find, Flag::Log),
+                table: has(&find, Flag::Table),
             };
-            Some(worked_by(workers, Work::Gen(options)))
+            let workers = number(&find, Kind::Option(Numbered::Workers));
+            Some(worked_by(workers, Work::Run(options)))
         }
+        CommandName::Replay => Some(Command::Quiet(Quiet::Replay(ReplayOptions {
+            rounds: has(&find, Flag::Rounds),
+            table: has(&find, Flag::Table),
+        }))),
+        CommandName::Format => Some(Command::Quiet(Quiet::Format)),
+        CommandName::Gen => gen_with(
+            number(&find, Kind::Alone),
+            number(&find, Kind::Option(Numbered::Devices)),
+            number(&find, Kind::Option(Numbered::Workers)),
+        ),
         CommandName::Trace => Some(Command::Quiet(Quiet::Trace)),
-        CommandName::Mail => Some(Command::Quiet(Quiet::Mail(MailOptions { number }))),
+        CommandName::Mail => Some(Command::Quiet(Quiet::Mail(MailOptions {
+            number: number(&find, Kind::Option(Numbered::Number)),
+        }))),
     }
 }
 
@@ -237,16 +210,15 @@ pub fn chosen(name: CommandName, choices: Choices) -> Option<Command>
 fn takes_all(name: CommandName, settings: &[Setting]) -> bool
     ensures { result ≡ list_all (allows name) settings.now }
 {
-    settings.iter().all(|setting| takes(name, *setting))
+    settings.iter().all(|setting| allowed(name, *setting))
 }
 
-/// The command of a name with its settings, if it takes them.
+/// The command of a name with its settings, if it takes them and nothing is set twice.
 pub fn command_of_settings(name: CommandName, settings: &[Setting]) -> Option<Command>
     ensures { result ≡ command_from name settings.now }
 {
-    if takes_all(name, settings) {
-        let choices = collected(settings)?;
-        chosen(name, choices)
+    if takes_all(name, settings) && are_once(settings) {
+        chosen(name, |kind| found(settings, kind))
     } else {
         None
     }

@@ -3,9 +3,9 @@
 ghost use Rattle.std.specs.Prelude.{◌≡◌, IfOk, map, string_bytes};
 ghost use Rattle.command_words.specs.Words.{WordsAskForCommands, command_of};
 
-use crate::choices::{chosen, command_of_settings, named};
+use crate::choices::{command_of_settings, named};
 use crate::commands::Command;
-use crate::options::choices;
+use crate::options::command_by_clap;
 use crate::settings::settings;
 use fc_values::Memory;
 use std::alloc::Global;
@@ -46,8 +46,7 @@ pub fn command(alloc: Global, words: &[String]) -> Result<Option<Command>, Memor
     if read_command(alloc, words)?.is_none() {
         return Ok(None);
     }
-    let choices = choices(alloc, name, word.as_str(), asked)?;
-    Ok(chosen(name, choices))
+    command_by_clap(alloc, name, word.as_str(), asked)
 }
 
 /// What words ask for is a command: there is a worker at least, and a scenario has three devices at least.
