@@ -58,8 +58,8 @@ OUTSIDE = (
     ("take drop slice_get slice_set slice_index_or",
      "the first n; the rest; the element at an index from 0, if there is one; the list with another element there; the "
      "element there, or else another"),
-    ("list_all All Contains find",
-     "whether all pass a test; a statement on each; something is in the list; the first that passes"),
+    ("list_all list_any All Contains find",
+     "whether all pass a test; whether one does; a statement on each; something is in the list; the first that passes"),
     ("prefix_len count_by sum_by",
      "how many in front pass a test; how many pass; the sum of the numbers that a function makes of each"),
     ("before_first after_first",

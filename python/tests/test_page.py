@@ -319,8 +319,8 @@ class Network(Opened):
         self.browser.click(*self.place(2))
         self.settled()
         shown = self.browser.value(
-            "[...document.querySelectorAll('.device')].flatMap((one) => "
-            "one.querySelector('.sensed').textContent ? [[one.dataset.id, one.querySelector('.sensed').textContent]] : [])"
+            "[...document.querySelectorAll('.device')].map((one) => "
+            "[one.dataset.id, one.querySelector('.sensed').textContent]).filter(([_, text]) => text)"
         )
         self.assertEqual(sorted(shown), [["2", "5"], ["7", "40"]])
         self.assertIn("below a device: heat", self.of("legend"))
@@ -604,7 +604,8 @@ class Changes(Opened):
         self.browser.drag(self.place(14), self.place(3))
         self.browser.click(*self.place(14))
         self.assertIn("Device 14, which may come", self.of("inspector"))
-        self.assertRegex(self.of("told"), r"^Device 14 may come; while the network changes: \d+..10 whenever it is there$")
+        while_it_changes = r"^Device 14 may come; while the network changes: \d+..10 whenever it is there$"
+        self.assertRegex(self.of("told"), while_it_changes)
         self.tool("link")
         self.browser.drag(self.place(14), self.place(3))
         self.settled()
