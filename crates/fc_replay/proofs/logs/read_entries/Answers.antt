@@ -3,4 +3,6 @@ use Rattle.fc_replay.proofs.Replaying.{is_faulty}
 use Rattle.fc_replay.proofs.logs.read_entries.Goals as goal
 
 pub returns-in-Err-clause-refused : goal.returns-in-Err-clause-refused
-returns-in-Err-clause-refused c = is_faulty (unfolding_of c.args.program.now) c.args.net.now c.args.text.now _ _ c.in-Err.ensures.refused
+returns-in-Err-clause-refused c =
+    is_faulty (unfolding_of c.args.program.now) c.args.net.now c.args.text.now _ _ _ _
+    c.in-Err.ensures.refused c.fault_in.ensures c.log_refusal.ensures
