@@ -15,6 +15,7 @@ use Rattle.edit_commands.specs.declared.types.Fault.{Fault}
 use Rattle.edit_commands.specs.LineByLine.{Lines, AllLines, StopsAt, SaidBy}
 use Rattle.log_lines.specs.Logs.{LogLine, IsEntry, log_of}
 use Rattle.command_frame.specs.declared.refusal.LineFault.{LineFault}
+use Rattle.command_frame.specs.declared.refusal.Refusal.{Refusal}
 use Rattle.command_frame.specs.declared.refusal.LineFault.TheVariants.{Net}
 use Rattle.command_frame.specs.Answers.{showing, AnswerValue}
 use Rattle.command_frame.specs.Causes.{Cause, Plainly, Judged, Accepted, Refused}
@@ -88,9 +89,11 @@ is_text options book one two rounds table a b d e first second held none is coun
     ∙ ap (λ (k : CoreValue). values_text (core_of k)) first))
 
 -- ---- the log
-pub is_faulty : (U : Unfolding) (n : Network) (text : List ℕ) (at : ℕ) (fault : Fault) → log_of U n text ≡ StopsAt at fault
-    → IsFaulty (log_of U n text) (Plainly (log_refusal at (fault_in fault)))
-is_faulty U n text at fault h = subst (λ j. IsFaulty j (Plainly (log_refusal at (fault_in fault)))) (sym h) refl
+pub is_faulty : (U : Unfolding) (n : Network) (text : List ℕ) (at : ℕ) (fault : Fault) (why : LineFault) (said : Refusal)
+    → log_of U n text ≡ StopsAt at fault → why ≡ fault_in fault → said ≡ log_refusal at why
+    → IsFaulty (log_of U n text) (Plainly said)
+is_faulty U n text at fault why said h w s =
+    subst (λ j. IsFaulty j (Plainly said)) (sym h) (ap Plainly (s ∙ ap (log_refusal at) w))
 
 -- ---- the texts
 module _ (options : ReplayOptions) (program network log : List ℕ) (U : Unfolding) (s : SceneValue)

@@ -43,8 +43,9 @@ pub fn read_entries(
     ensures fits { IfOk result (λ l. LogFits (unfolding_of program.now) (entries_of l.entries.items)) }
     ensures refused { IfErr result (StopsFor (IsFaulty (log_of (unfolding_of program.now) net.now text.now))) }
 {
-    match read_log(alloc, program, net, text)? {
+    let read = read_log(alloc, program, net, text)?;
+    match read {
         Ok(log) => Ok(log),
-        Err((line, fault)) => Err(Stop::Refused(log_refusal(line, fault_in(fault)))),
+        Err(at) => Err(Stop::Refused(log_refusal(at.0, fault_in(at.1)))),
     }
 }
