@@ -233,7 +233,7 @@ class Specs(unittest.TestCase):
 
 class Words(unittest.TestCase):
     def test_pages_that_are_short(self) -> None:
-        for page, most in (("README.md", 900), ("docs/changes.md", 1500)):
+        for page, most in (("README.md", 900), ("docs/changes.md", 1500), ("docs/recipes/README.md", 500)):
             self.assertLessEqual(len((TOP / page).read_text().split()), most, page)
 
 
@@ -271,7 +271,9 @@ class Commands(unittest.TestCase):
         self.assertEqual((done.returncode, done.stdout), (0, wanted))
 
 
-PAGES = sorted([*TOP.glob("*.md"), *(TOP / "docs").glob("*.md"), TOP / "examples/README.md", TOP / "editors/README.md"])
+PAGES = sorted(
+    [*TOP.glob("*.md"), *(TOP / "docs").rglob("*.md"), TOP / "examples/README.md", TOP / "editors/README.md"]
+)
 
 
 class Links(unittest.TestCase):
