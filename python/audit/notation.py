@@ -23,8 +23,8 @@ NOTATION = (
     ("`[]`, `x ∷ xs`", "the list without elements; the list xs with x in front"),
     ("`if c then a else b`", "a where c is `true`, and else b"),
     ("`op.Add`",
-     "the case `Add` of an `enum` of the code: the line `use .. as op` of the file says of which. Its `use` lines also "
-     "say which one is meant of a name with several meanings"),
+     "the case `Add` of an `enum` of the code. The line `use .. as op` of the file says of which `enum`. If a name has "
+     "several meanings, the `use` lines say which one is meant"),
     ("`loc.Pair' p a q b`", "the case `Pair` of two boxes; a and b are in them"),
     ("numbers", "`ℕ`: whole numbers from 0, without bound. A `u32` of the code is one of these too"),
     ("texts", "lists of bytes. `codes \"yes \"` are the bytes of `yes `"),

@@ -16,23 +16,23 @@ TITLE = """\
 # The audit
 
 What to read to believe what `fc` promises, by file and lines. `docs/headline.md` says the promises in words. \
-`tools/audit` makes this page from the definitions as they stand, and the gate fails where it isn't what the tool makes.
+`tools/audit` makes this page from the definitions as they stand, and the gate fails if the page isn't what the tool makes.
 
 **In an hour** one reads *How it is written*, *From the clause to the rules* and section 1. These are {hour} lines of \
 definitions, which lead from the clause of `fc` to the rules by which a device evaluates, and say all that a yes \
 means. The other sections are for a second reading: what a text, a line or an option is, and what else is promised.
 
-**In which order.** In the sections a row rests on the rows above it, and beside them on the names of *What stands \
-outside* alone: nothing has to be looked up elsewhere. A row names what its lines define, so a search on this page \
-finds where a name is defined.
+**In which order.** A row rests only on the rows above it in its section and on the names of *What stands outside*: \
+nothing has to be looked up elsewhere. A row names what its lines define, so a search on this page finds where a name \
+is defined.
 
 A definition stands here if the clause of `fc` leans on it. The tool walks from name to name, through the definitions \
 and the types and constants of the code that they name. Proofs aren't among them: the toolchain checks these.
 
 **What decides.** A definition is *needed for soundness* if a promise would say something else with another one in its \
 place: the rules of evaluation, what a round is, which program a text is. It is *needed for exactness alone* if it \
-only says which answer `fc` gives: the verdict, typing, refusals. With any other one in its place, what is promised of \
-the text that was written would still be promised. The tool goes from each promise to all that it names, but not into \
+only says which answer `fc` gives: the verdict, typing, refusals. With another definition in its place the \
+promises would be the same. The tool goes from each promise to all that it names, but not into \
 the names of *What only says which answer it is*, which are chosen by hand, each for the reason beside it. What is met \
 through these alone is needed for exactness alone.
 """

@@ -124,7 +124,7 @@ CUTS = {
     "bound_rounds/specs/Rounds.antt BoundTable": "the same",
     "command_frame/specs/Sources.antt IsNoProgram": "why a text is refused: where it is, nothing is promised of it",
     "fc_parser/specs/Limits.antt limit_passed":
-        "which programs are accepted beyond grammar: a promise is of one that was",
+        "which programs are accepted beyond grammar: a promise is of an accepted program",
     "unfold/specs/Nodes.antt Nodes": "the same",
     "fc_types/specs/Typing.antt IsTyped":
         "the same; of a program without types the promise would be about what it unfolds to, where `untyped` stands "
@@ -137,7 +137,7 @@ CUTS = {
     "scenarios/specs/Words.antt stream_of": "the same",
     "command_frame/specs/Causes.antt Cause": "why texts are refused: a promise is of those that are accepted",
     "command_frame/specs/Ledgers.antt ledger_of":
-        "what the book of the outcome stands for, which the program drops: the answer's own stands in the promise",
+        "what the book of the outcome stands for; the promise has the answer's own book",
     "firing_core/src/books.rt Book": "the same",
     "export_table/src/firing.rt Gate": "what tests call between a begin and an end: no clause speaks of it",
 }  # fmt: skip
