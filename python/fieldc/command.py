@@ -42,8 +42,8 @@ DESCRIPTION = """\
 The front end of fc, the interpreter and proved checker of the first-order field calculus.
 fc computes; fieldc reads files, explains refusals and draws."""
 EPILOG = """\
-statuses: 0 done; 1 a no, open, or no walks; 2 wrong words; 3 something is wrong in a file; 4 a limit is exceeded;
-5 reading failed; 6 writing failed; 7 memory ran out.
+statuses: 0 done; 1 a no, open, or no walks; 2 a wrong command line; 3 something is wrong in a file;
+4 a limit is exceeded; 5 reading failed; 6 writing failed; 7 memory ran out.
 
 fieldc COMMAND --help explains a command. The variable FC names the program fc, if it isn't the installed one."""
 

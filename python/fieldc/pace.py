@@ -69,7 +69,7 @@ def arguments(parser: argparse.ArgumentParser) -> None:
     parser.add_argument("--lasts", metavar="S", type=seconds, help="with --period: a firing takes at most S")
     parser.add_argument(
         "--delivery", metavar="S", type=seconds,
-        help="with --period: over message links, each delivers a message within S more",
+        help="with --period, over message links: each link delivers a message within S more",
     )  # fmt: skip
 
 

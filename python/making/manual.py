@@ -119,9 +119,8 @@ def files_and_answers() -> str:
     """What holds of all commands."""
     return (
         ".PP\nEach file is a section of the input of fc: a program, a network, and a script or a log. A file may\n"
-        "have several sections, separated by lines that are exactly %%, and \\- is standard input. What is refused is\n"
-        "told on standard error, with the line of the file and what to try, and nothing is written on standard\n"
-        "output.\n"
+        "have several sections, separated by lines that are exactly %%, and \\- is standard input. A refusal goes to\n"
+        "standard error, with the line of the file and what to try; then nothing is written on standard output.\n"
         ".PP\nEach command explains itself with\n.BR \\-\\-help ."
     )
 

@@ -214,7 +214,7 @@ class Page(unittest.TestCase):
                 if settled != "open":
                     self.assertEqual(self.settled(left) == self.settled(right), not theirs.startswith(OTHERWISE))
         self.assertIn("of the {} programs on the left, {no} do.".format(len(rows), **counted), self.text)
-        self.assertIn("Of {settles} of them".format(**counted), self.text)
+        self.assertIn("finds that {settles} of these settle all the same".format(**counted), self.text)
 
     def settled(self, text: str) -> list[str]:
         """The values to which the devices settle on the page's network."""

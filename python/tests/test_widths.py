@@ -30,7 +30,7 @@ class Widths(unittest.TestCase):
 
         program, lines = block_widths.composed("hops(sense source, 12)"), block_widths.lines_of_moves(24 / 16)
         wide = block_widths.mean_width(fieldc.bounds(program, block_cases.scenes()[0].text(), lines))
-        self.assertIn(f"With a sixteenth `hops` has {wide}.", PAGE.read_text())
+        self.assertIn(f"With a sixteenth `hops` has a width of {wide}.", PAGE.read_text())
 
     def test_each_block_is_in_it(self) -> None:
         import block_widths

@@ -25,9 +25,9 @@ A line says what may happen, at any time and any number of times:
   leave DEVICES               they leave, and come back
   join DEVICE VALUE ..        a device that isn't there comes with such inputs, and may leave again
 
-DEVICES are one by its number or name, * for all, 3..9, or input=value for those of which an input has this value now.
-A VALUE is one, 2..7, any, or about what it is now: +-2, -1..+3, +-20%, -20%..+20%, within the range of the input or of
-the metric. fieldc settle --changes takes the same file."""
+DEVICES are one device by its number or name, * for all, 3..9, or input=value for all whose input has this value now.
+A VALUE is one value, 2..7, any, or relative to the present one: +-2, -1..+3, +-20%, -20%..+20%. It stays within the
+range of the input or the metric. fieldc settle --changes takes the same file."""
 KINDS = ("changes", "network", "program")
 
 

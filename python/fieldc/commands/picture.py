@@ -24,8 +24,8 @@ SUMMARY = "draws a network with the values of its devices, or a run as a page wi
 EPILOG = """\
 Example: fieldc picture hops.fc net.json --of stable --positions points.csv -o hops.svg
 
-The files are a program and a network; for a run also its script, and for a replay its log, since each show is drawn on
-the network of that moment; for bounds while the network changes also the file of changes, so that everything that may
+The files are a program and a network. A run also needs its script, and a replay its log, since each show is drawn on
+the network of that moment. Bounds while the network changes also need the file of changes, so that everything that may
 come is drawn. A network alone is drawn without values. --values reads what fc wrote, and --of asks fc."""
 OF: dict[str, tuple[tuple[str, ...], Callable[[str], results.Result]]] = {
     "stable": (("stable",), results.stable),

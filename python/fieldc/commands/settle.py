@@ -12,9 +12,9 @@ from ..streams import say
 
 SUMMARY = "says after how many rounds each device of this network holds its value"
 EPILOG = """\
-With --changes it says between which values each device stays, and after how many rounds, while the network changes
-within the lines of a file: set, link, unlink, leave and join, as in scripts, with values as 2..7 or any, or patterns
-(fieldc changes --help)."""
+With --changes it says between which values each device stays, and after how many rounds, while the network changes as
+the lines of the file allow. The lines are set, link, unlink, leave and join, as in scripts. A value may be 2..7 or any,
+and lines may have patterns (fieldc changes --help)."""
 KINDS = ("program", "network")
 
 
