@@ -40,10 +40,13 @@ pub fn judge(
         Expr::Uid => Ok(Ty::Local(LocalTy::Int)),
         Expr::NbrLink => Ok(Ty::Field(LocalTy::Int)),
         Expr::Sense(name) => sense_type(&*known, name),
-        Expr::Apply(builtin, args) => match args.as_slice() {
-            [arg] => judge_one(alloc, &*known, &*scope, *builtin, arg),
-            args => judge_apply(alloc, &*known, &*scope, *builtin, args),
-        },
+        Expr::Apply(Builtin::Not, args) => judge_nots(alloc, &*known, &*scope, args),
+        Expr::Apply(builtin, args) => {
+            let [arg] = args.as_slice() else {
+                return judge_apply(alloc, &*known, &*scope, *builtin, args);
+            };
+            judge_one(alloc, &*known, &*scope, *builtin, arg)
+        }
         Expr::Nbr(inner) => judge_nbr(alloc, &*known, &*scope, inner),
         Expr::Rep(first, name, body) => judge_rep(alloc, &*known, &*scope, first, &*name, body),
         Expr::Share(first, name, body) => judge_share(alloc, &*known, &*scope, first, &*name, body),
@@ -53,6 +56,25 @@ pub fn judge(
         Expr::Let(name, bound, body) => judge_let(alloc, &*known, &*scope, &*name, bound, body),
         Expr::Call(name, args) => judge_call(alloc, &*known, &*scope, &*name, args),
     }
+}
+
+// A chain of `not`, which may be thousands of levels deep: `not` of a `not` has the type or the fault of the inner one.
+#[cycle(judge)]
+#[inline(never)]
+fn judge_nots(
+    alloc: Global,
+    known: &Known<'_>,
+    scope: &Scope<'_>,
+    args: &[Expr],
+) -> Result<Ty, TypeRefusal>
+    ensures { Gives result (judgement (known_of known.now) (scope_of scope.now)
+        (ApplyTerm Builtin.Not (terms (map term_of args.now)))) }
+{
+    let mut last = args;
+    'nots: while let [Expr::Apply(Builtin::Not, inner)] = last {
+        last = inner;
+    }
+    judge_apply(alloc, &*known, &*scope, Builtin::Not, last)
 }
 
 #[cycle(judge)]
