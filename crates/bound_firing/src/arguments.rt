@@ -9,12 +9,12 @@ ghost use Rattle.value_bounds.specs.BoundBuiltins.{BoundLocal, builtin_bound};
 ghost use Rattle.value_bounds.specs.References.{any_bound_in, any_bounds_in, lent_bound_in, lent_bounds_in};
 ghost use Rattle.value_bounds.specs.References.{local_bound_in};
 ghost use Rattle.bound_firing.specs.Firing.{local_part};
-ghost use Rattle.bound_firing.specs.Contexts.{IsHeld, argument_in};
+ghost use Rattle.bound_firing.specs.Contexts.{IsHeld, IsMade, argument_in};
 ghost use Rattle.bound_firing.specs.Held.{is_local as is_bound_of_local};
 
 use crate::evaluation::{Context, Sight, in_scope};
 use crate::seating::as_it_is;
-use fc_nodes::{Node, Op};
+use fc_nodes::{Node, Op, ceiling_of};
 use fc_values::{Builtin, Memory};
 use std::alloc::Global;
 use value_bounds::{Bound, BoundRef, LocalBound, bound_of_builtin, copy_bound, lend};
@@ -108,22 +108,83 @@ fn local_component<'a>(builtin: Builtin, local: &'a LocalBound) -> Option<&'a Lo
     }
 }
 
-/// What a builtin makes of one argument.
-pub fn of_one<'a>(
+/// What a builtin makes of one argument, which it takes over.
+#[inline(never)]
+pub fn make_one(
     alloc: Global,
+    context: &Context<'_>,
     builtin: Builtin,
-    a: BoundRef<'a>,
-    device: u32,
-    ceiling: u32,
+    a: Bound,
 ) -> Result<Bound, Memory>
-    ensures { IfOk result (λ r.
-        any_bound_in r ≡ builtin_bound builtin ceiling device (lent_bound_in a.entry ∷ [])) }
+    ensures { IfOk result (IsMade context.now builtin (any_bound_in a ∷ [])) }
 {
-    bound_of_builtin(alloc, builtin, &[a], device, ceiling)
+    of_one(alloc, context, builtin, lend(&a))
 }
 
-/// What a builtin makes of two arguments.
-pub fn of_two<'a>(
+/// What a builtin makes of two arguments, which it takes over.
+#[inline(never)]
+pub fn make_two(
+    alloc: Global,
+    context: &Context<'_>,
+    builtin: Builtin,
+    a: Argument<'_>,
+    b: Argument<'_>,
+) -> Result<Bound, Memory>
+    ensures { IfOk result (IsMade context.now builtin (argument_in a.entry ∷ argument_in b.entry ∷ [])) }
+{
+    if makes_pair(builtin, &a, &b) {
+        return paired(alloc, a, b);
+    }
+    let ceiling = ceiling_of(context.program);
+    let first = seen(&a);
+    let second = seen(&b);
+    of_two(alloc, builtin, first, second, context.device, ceiling)
+}
+
+/// What a builtin makes of three arguments, which it takes over.
+#[inline(never)]
+pub fn make_three(
+    alloc: Global,
+    context: &Context<'_>,
+    builtin: Builtin,
+    a: Argument<'_>,
+    b: Argument<'_>,
+    c: Argument<'_>,
+) -> Result<Bound, Memory>
+    ensures { IfOk result (IsMade context.now builtin
+        (argument_in a.entry ∷ argument_in b.entry ∷ argument_in c.entry ∷ [])) }
+{
+    let ceiling = ceiling_of(context.program);
+    let first = seen(&a);
+    let second = seen(&b);
+    let third = seen(&c);
+    of_three(
+        alloc,
+        builtin,
+        first,
+        second,
+        third,
+        context.device,
+        ceiling,
+    )
+}
+
+/// What a builtin makes of one argument.
+#[inline(never)]
+pub fn of_one<'a>(
+    alloc: Global,
+    context: &Context<'_>,
+    builtin: Builtin,
+    a: BoundRef<'a>,
+) -> Result<Bound, Memory>
+    ensures { IfOk result (IsMade context.now builtin (lent_bound_in a.entry ∷ [])) }
+{
+    let ceiling = ceiling_of(context.program);
+    bound_of_builtin(alloc, builtin, &[a], context.device, ceiling)
+}
+
+// What a builtin makes of two arguments.
+fn of_two<'a>(
     alloc: Global,
     builtin: Builtin,
     a: BoundRef<'a>,
@@ -137,8 +198,8 @@ pub fn of_two<'a>(
     bound_of_builtin(alloc, builtin, &[a, b], device, ceiling)
 }
 
-/// What a builtin makes of three arguments.
-pub fn of_three<'a>(
+// What a builtin makes of three arguments.
+fn of_three<'a>(
     alloc: Global,
     builtin: Builtin,
     a: BoundRef<'a>,
@@ -153,8 +214,8 @@ pub fn of_three<'a>(
     bound_of_builtin(alloc, builtin, &[a, b, c], device, ceiling)
 }
 
-/// Whether a builtin makes a pair of two local values, which takes over what was made for it.
-pub fn makes_pair(builtin: Builtin, a: &Argument<'_>, b: &Argument<'_>) -> bool
+// Whether a builtin makes a pair of two local values, which takes over what was made for it.
+fn makes_pair(builtin: Builtin, a: &Argument<'_>, b: &Argument<'_>) -> bool
     ensures { IsTrue result → (m d : ℕ) → builtin_bound builtin m d (argument_in a.now ∷ argument_in b.now ∷ [])
         ≡ BoundLocal (Both (local_part (argument_in a.now)) (local_part (argument_in b.now))) }
 {
@@ -164,8 +225,8 @@ pub fn makes_pair(builtin: Builtin, a: &Argument<'_>, b: &Argument<'_>) -> bool
     }
 }
 
-/// The pair of two arguments that are local values.
-pub fn paired(alloc: Global, a: Argument<'_>, b: Argument<'_>) -> Result<Bound, Memory>
+// The pair of two arguments that are local values.
+fn paired(alloc: Global, a: Argument<'_>, b: Argument<'_>) -> Result<Bound, Memory>
     ensures { IfOk result (λ r. any_bound_in r
         ≡ BoundLocal (Both (local_part (argument_in a.entry)) (local_part (argument_in b.entry)))) }
 {

@@ -7,15 +7,15 @@ ghost use Rattle.value_bounds.specs.BoundBuiltins.{BoundField, BoundLocal};
 ghost use Rattle.fc_values.specs.Values.{local_of};
 ghost use Rattle.value_bounds.specs.References.{local_bound_in, local_bounds_in, any_bound_in, lent_bound_in};
 ghost use Rattle.bound_firing.specs.Firing.{variable_bound, local_part, input_bound as bound_of_input};
-ghost use Rattle.bound_firing.specs.FlatSeats.{SlotsHave, flat_entries, flat_weight};
+ghost use Rattle.bound_firing.specs.FlatSeats.{SlotsHave, flat_entries, flat_maybes, flat_weight};
 ghost use Rattle.bound_firing.specs.References.{flat_seats_in};
 ghost use Rattle.bound_firing.specs.Walks.{started, one_of};
 ghost use Rattle.bound_firing.specs.Contexts.{vars_in, evolution_in, maybe_in, ReadyIn, ReadyFor, FiredTo, ReadyKids};
 ghost use Rattle.bound_firing.specs.Contexts.{KidsFiredTo, ReadyBranch, BranchFiredTo, SeenTo, BuiltOf};
+ghost use Rattle.bound_firing.specs.Contexts.{Heard, Kept};
+ghost use Rattle.bound_firing.specs.Seats.{cut_to};
 
-use crate::arguments::{
-    Argument, held, lend_all, makes_pair, of_one, of_three, of_two, paired, seen,
-};
+use crate::arguments::{Argument, held, lend_all, make_one, make_three, make_two, of_one, seen};
 use crate::seating::{
     cut_to_seats, may_be, own_or_first, seat_field, seat_weights, seats_in_branch, slot_at,
 };
@@ -57,7 +57,9 @@ pub enum Evolution {
     Share,
 }
 
-/// Evaluates a node: the bound of its value, and those of its slots in the draft.
+/// Evaluates a node: the bound of its value, and those of its slots in the draft. Programs may be thousands of nodes
+/// deep. So each kind of node has a function of its own, and what is made of the bounds of a node's kids is made in
+/// others yet, which take these bounds over: a level takes little of the stack.
 #[cycle(eval)]
 pub fn eval(
     alloc: Global,
@@ -72,10 +74,13 @@ pub fn eval(
     let node = context.program.node(place);
     match &node.op {
         Op::Lit(value) => literal(alloc, value),
-        Op::Var(binder) => cut_to_seats(alloc, &in_scope(sight.vars, *binder), sight.seats),
+        Op::Var(binder) => variable(alloc, sight, *binder),
         Op::Sense(input) => sensed(alloc, context.inputs, *input),
         Op::Uid => Ok(Bound::Local(uid(context.device, context.program))),
         Op::NbrLink => links(alloc, sight.seats, least_weight(context.program)),
+        Op::Apply(builtin) if node.kids.len() == 1 => {
+            eval_one(alloc, context, node.kids[0], *builtin, sight, draft)
+        }
         Op::Apply(builtin) => eval_apply(alloc, context, place, node, *builtin, sight, draft),
         Op::Nbr => eval_nbr(alloc, context, place, node, sight, draft),
         Op::If => eval_if(alloc, context, place, node, sight, draft),
@@ -86,6 +91,7 @@ pub fn eval(
 }
 
 #[cycle(eval)]
+#[inline(never)]
 fn eval_apply(
     alloc: Global,
     context: &Context<'_>,
@@ -99,7 +105,6 @@ fn eval_apply(
     ensures { IfOk result (FiredTo context.now place sight.now draft.old draft.new) }
 {
     match node.kids.as_slice() {
-        [a] => eval_one(alloc, context, *a, builtin, sight, draft),
         [a, b] => eval_two(alloc, context, *a, *b, builtin, sight, draft),
         [a, b, c] => eval_three(alloc, context, *a, *b, *c, builtin, sight, draft),
         kids => eval_more(alloc, context, kids, builtin, sight, draft),
@@ -108,6 +113,7 @@ fn eval_apply(
 
 // What a builtin makes of one argument.
 #[cycle(eval)]
+#[inline(never)]
 fn eval_one(
     alloc: Global,
     context: &Context<'_>,
@@ -119,13 +125,18 @@ fn eval_one(
     requires { ReadyKids context.now (kid ∷ []) sight.now draft.old }
     ensures { IfOk result (BuiltOf context.now builtin (kid ∷ []) sight.now draft.old draft.new) }
 {
-    let a = eval_argument(alloc, context, kid, sight, draft)?;
-    let ceiling = ceiling_of(context.program);
-    of_one(alloc, builtin, seen(&a), context.device, ceiling)
+    match held(context, kid, sight) {
+        Some(bound) => of_one(alloc, context, builtin, bound),
+        None => {
+            let made = eval(alloc, context, kid, sight, draft)?;
+            make_one(alloc, context, builtin, made)
+        }
+    }
 }
 
 // What a builtin makes of two arguments.
 #[cycle(eval)]
+#[inline(never)]
 fn eval_two(
     alloc: Global,
     context: &Context<'_>,
@@ -140,17 +151,12 @@ fn eval_two(
 {
     let a = eval_argument(alloc, context, first, sight, draft)?;
     let b = eval_argument(alloc, context, second, sight, draft)?;
-    if makes_pair(builtin, &a, &b) {
-        return paired(alloc, a, b);
-    }
-    let ceiling = ceiling_of(context.program);
-    let first = seen(&a);
-    let second = seen(&b);
-    of_two(alloc, builtin, first, second, context.device, ceiling)
+    make_two(alloc, context, builtin, a, b)
 }
 
 // What a builtin makes of three arguments.
 #[cycle(eval)]
+#[inline(never)]
 fn eval_three(
     alloc: Global,
     context: &Context<'_>,
@@ -167,23 +173,12 @@ fn eval_three(
     let a = eval_argument(alloc, context, first, sight, draft)?;
     let b = eval_argument(alloc, context, second, sight, draft)?;
     let c = eval_argument(alloc, context, third, sight, draft)?;
-    let ceiling = ceiling_of(context.program);
-    let first = seen(&a);
-    let second = seen(&b);
-    let third = seen(&c);
-    of_three(
-        alloc,
-        builtin,
-        first,
-        second,
-        third,
-        context.device,
-        ceiling,
-    )
+    make_three(alloc, context, builtin, a, b, c)
 }
 
 // What a builtin makes of any number of arguments.
 #[cycle(eval)]
+#[inline(never)]
 fn eval_more(
     alloc: Global,
     context: &Context<'_>,
@@ -249,6 +244,7 @@ fn eval_argument<'a>(
 }
 
 #[cycle(eval)]
+#[inline(never)]
 fn eval_nbr(
     alloc: Global,
     context: &Context<'_>,
@@ -262,13 +258,30 @@ fn eval_nbr(
 {
     let slot = slot_of(context.layout, place);
     let bound = eval(alloc, context, node.kids[0], sight, draft)?;
+    hear(alloc, sight.seats, slot, bound, draft)
+}
+
+// The field of what the neighbours have in a slot, with a new bound at the device itself, which the slot keeps.
+#[inline(never)]
+fn hear(
+    alloc: Global,
+    seats: &Seats<'_>,
+    slot: u32,
+    bound: Bound,
+    draft: &mut [LocalBound],
+) -> Result<Bound, Memory>
+    requires seats { SlotsHave slot (flat_seats_in seats.now) }
+    requires within { slot < length draft.old }
+    ensures { IfOk result (Heard slot seats.now bound draft.old draft.new) }
+{
     let own = into_local(bound);
-    let field = seat_field(alloc, sight.seats, slot, copy_bound(alloc, &own)?)?;
+    let field = seat_field(alloc, seats, slot, copy_bound(alloc, &own)?)?;
     put(draft, slot, own);
     Ok(Bound::Field(field))
 }
 
 #[cycle(eval)]
+#[inline(never)]
 fn eval_evolve(
     alloc: Global,
     context: &Context<'_>,
@@ -283,19 +296,29 @@ fn eval_evolve(
 {
     let slot = slot_of(context.layout, place);
     let first = eval(alloc, context, node.kids[0], sight, draft)?;
-    let start = starting_bound(alloc, evolution, sight.seats, slot, into_local(first))?;
+    let start = starting_bound(alloc, evolution, sight.seats, slot, first)?;
     let evolving = Scope::Bind(place, lend(&start), sight.vars);
     let body = Sight {
         seats: sight.seats,
         vars: &evolving,
     };
     let bound = eval(alloc, context, node.kids[1], &body, draft)?;
+    keep(alloc, slot, bound, draft)
+}
+
+// A new bound, which the slot keeps.
+#[inline(never)]
+fn keep(alloc: Global, slot: u32, bound: Bound, draft: &mut [LocalBound]) -> Result<Bound, Memory>
+    requires { slot < length draft.old }
+    ensures { IfOk result (Kept slot bound draft.old draft.new) }
+{
     let own = into_local(bound);
     put(draft, slot, copy_bound(alloc, &own)?);
     Ok(Bound::Local(own))
 }
 
 #[cycle(eval)]
+#[inline(never)]
 fn eval_if(
     alloc: Global,
     context: &Context<'_>,
@@ -309,15 +332,26 @@ fn eval_if(
 {
     let slot = slot_of(context.layout, place);
     let condition = eval(alloc, context, node.kids[0], sight, draft)?;
-    put(draft, slot, into_local(condition));
+    decide(slot, condition, draft);
     let first = eval_branch(alloc, context, node.kids[1], slot, true, sight, draft)?;
     let second = eval_branch(alloc, context, node.kids[2], slot, false, sight, draft)?;
     let bound = either_of(alloc, first, second)?;
     Ok(bound)
 }
 
+// The bound of a condition, in the slot of its `if`.
+#[inline(never)]
+fn decide(slot: u32, condition: Bound, draft: &mut [LocalBound])
+    requires { slot < length draft.old }
+    ensures { local_bounds_in draft.new
+        ≡ slice_set (local_bounds_in draft.old) slot (local_part (any_bound_in condition)) }
+{
+    put(draft, slot, into_local(condition));
+}
+
 // Evaluates a branch of the `if` with a slot, unless the bound there says that it isn't taken.
 #[cycle(eval)]
+#[inline(never)]
 fn eval_branch(
     alloc: Global,
     context: &Context<'_>,
@@ -343,6 +377,7 @@ fn eval_branch(
 }
 
 #[cycle(eval)]
+#[inline(never)]
 fn eval_let(
     alloc: Global,
     context: &Context<'_>,
@@ -377,7 +412,17 @@ pub fn in_scope<'a>(vars: &Scope<'a>, binder: u32) -> BoundRef<'a>
     BoundRef::Any
 }
 
+// The bound of a variable where it is seen.
+#[inline(never)]
+fn variable(alloc: Global, sight: &Sight<'_, '_>, binder: u32) -> Result<Bound, Memory>
+    ensures { IfOk result (λ b. any_bound_in b ≡ cut_to (flat_maybes (flat_seats_in sight.now.seats.now).near)
+        (variable_bound binder (vars_in sight.now.vars.now))) }
+{
+    cut_to_seats(alloc, &in_scope(sight.vars, binder), sight.seats)
+}
+
 // The bound of a literal.
+#[inline(never)]
 fn literal(alloc: Global, value: &Local) -> Result<Bound, Memory>
     ensures { IfOk result (λ b. any_bound_in b ≡ BoundLocal (exactly_of (local_of value.now))) }
 {
@@ -385,6 +430,7 @@ fn literal(alloc: Global, value: &Local) -> Result<Bound, Memory>
 }
 
 // The bound of an input.
+#[inline(never)]
 fn sensed(alloc: Global, inputs: &[LocalBound], index: u32) -> Result<Bound, Memory>
     ensures { IfOk result (λ b. any_bound_in b
         ≡ BoundLocal (bound_of_input (slice_get (local_bounds_in inputs.now) index))) }
@@ -396,6 +442,7 @@ fn sensed(alloc: Global, inputs: &[LocalBound], index: u32) -> Result<Bound, Mem
 }
 
 // The bound of the field of the links' weights.
+#[inline(never)]
 fn links(alloc: Global, seats: &Seats<'_>, least: u32) -> Result<Bound, Memory>
     ensures { IfOk result (λ b. any_bound_in b ≡ BoundField (Between least least)
         (flat_entries flat_weight (flat_seats_in seats.now).near)) }
@@ -413,18 +460,19 @@ fn uid(device: u32, program: &Unfolded) -> LocalBound
 }
 
 // What the variable of an evolving value starts from.
+#[inline(never)]
 fn starting_bound(
     alloc: Global,
     evolution: Evolution,
     seats: &Seats<'_>,
     slot: u32,
-    first: LocalBound,
+    first: Bound,
 ) -> Result<Bound, Memory>
     requires { SlotsHave slot (flat_seats_in seats.now) }
     ensures { IfOk result (λ b. any_bound_in b ≡ started (evolution_in evolution) slot (flat_seats_in seats.now)
-        (local_bound_in first)) }
+        (local_part (any_bound_in first))) }
 {
-    let own = own_or_first(alloc, seats, slot, first)?;
+    let own = own_or_first(alloc, seats, slot, into_local(first))?;
     match evolution {
         Evolution::Rep => Ok(Bound::Local(own)),
         Evolution::Share => Ok(Bound::Field(seat_field(alloc, seats, slot, own)?)),
@@ -432,6 +480,7 @@ fn starting_bound(
 }
 
 // The bound of the value of an `if`, out of those of the branches that may be taken.
+#[inline(never)]
 fn either_of(alloc: Global, first: Option<Bound>, second: Option<Bound>) -> Result<Bound, Memory>
     ensures { IfOk result (λ b. any_bound_in b ≡ one_of (maybe_in first) (maybe_in second)) }
 {

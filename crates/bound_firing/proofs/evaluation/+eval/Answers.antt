@@ -5,13 +5,13 @@ use Rattle.value_bounds.specs.References.{any_bound_in, any_bounds_in}
 use Rattle.bound_firing.proofs.SlotReads.{slots_long}
 use Rattle.bound_firing.proofs.LeafAt.{lit_done, variable_done, sense_done, uid_done, links_done}
 use Rattle.bound_firing.proofs.LetAt.{let_kids, let_value, let_body, let_done}
-use Rattle.bound_firing.proofs.NbrAt.{nbr_kids, nbr_there, nbr_kid, nbr_within, nbr_done}
-use Rattle.bound_firing.proofs.EvolveAt.{evolve_kids, evolve_there, evolve_a, evolve_b, evolve_within, evolve_done}
+use Rattle.bound_firing.proofs.NbrAt.{nbr_kids, nbr_there, nbr_kid, nbr_within, nbr_heard}
+use Rattle.bound_firing.proofs.EvolveAt.{evolve_kids, evolve_there, evolve_a, evolve_b, evolve_within, evolve_kept}
 use Rattle.bound_firing.proofs.IfAt.{if_kids, if_condition, if_there, if_true, if_false, if_done}
 use Rattle.bound_firing.proofs.ApplyAt.{apply_ready, apply_later, none_done, kid_there, rest_there}
 use Rattle.bound_firing.proofs.ApplyAt.{all_done}
 use Rattle.bound_firing.proofs.HeldAt.{apply_built, built_one, built_two, built_three, built_all}
-use Rattle.bound_firing.proofs.HeldAt.{one_item, two_items, three_items}
+use Rattle.bound_firing.proofs.HeldAt.{only_item, two_items, three_items}
 use Rattle.bound_firing.proofs.KidsAt.{ready_at}
 use Rattle.bound_firing.proofs.evaluation.+eval.Goals as goal
 
@@ -22,8 +22,8 @@ eval-returns-in-Lit t c =
 
 pub eval-returns-in-Var : goal.eval-returns-in-Var
 eval-returns-in-Var t c =
-    IfOk-weaker _ _ _ (λ b e. variable_done _ _ (ready_at c.requires (rw c.in-Var.is at c.node-node.ensures.node))
-    (rw c.in_scope.ensures at e)) c.cut_to_seats.ensures
+    IfOk-weaker _ _ _ (λ b e. variable_done _ _ (ready_at c.requires (rw c.in-Var.is at c.node-node.ensures.node)) e)
+    c.variable.ensures
 
 pub eval-returns-in-Sense : goal.eval-returns-in-Sense
 eval-returns-in-Sense t c =
@@ -39,18 +39,22 @@ eval-returns-in-NbrLink t c =
     IfOk-weaker _ _ _ (λ b e. links_done _ _ (ready_at c.requires (rw c.in-NbrLink.is at c.node-node.ensures.node))
     (rw c.least_weight.ensures at e)) c.links.ensures
 
-pub eval_apply-eval_one-requires : goal.eval_apply-eval_one-requires
-eval_apply-eval_one-requires t c =
+pub eval-eval_one-requires : goal.eval-eval_one-requires
+eval-eval_one-requires t c =
     let d = c.decreases in
-    let e = one_item c.as_slice.result.now c.in-len1.len_at_least c.in-len1.len_below ∙ c.as_slice.ensures.value in
-    let l = apply_later c.requires e in
-    let w = c.requires.ready.stands.within in
-    (omega (arith, d, l, w), apply_ready c.requires _ _ e)
+    let r = ready_at c.requires (rw c.in-Apply.is at c.node-node.ensures.node) in
+    let e = only_item _ c.index.ensures
+    (omega (arith, c.if-len-eq1.true, c.len.ensures, c.node-node.result.now.kids.ok.0)) in
+    let l = apply_later r e in
+    let w = r.ready.stands.within in
+    (omega (arith, d, l, w), apply_ready r _ _ e)
 
-pub eval_apply-returns-in-len1 : goal.eval_apply-returns-in-len1
-eval_apply-returns-in-len1 t c =
-    let e = one_item c.as_slice.result.now c.in-len1.len_at_least c.in-len1.len_below ∙ c.as_slice.ensures.value in
-    IfOk-weaker _ _ _ (λ b d. apply_built c.requires _ _ e d) c.eval_one.ensures
+pub eval-returns-in-Apply : goal.eval-returns-in-Apply
+eval-returns-in-Apply t c =
+    let r = ready_at c.requires (rw c.in-Apply.is at c.node-node.ensures.node) in
+    let e = only_item _ c.index.ensures
+    (omega (arith, c.if-len-eq1.true, c.len.ensures, c.node-node.result.now.kids.ok.0)) in
+    IfOk-weaker _ _ _ (λ b d. apply_built r _ _ e d) c.eval_one.ensures
 
 pub eval_apply-eval_two-requires : goal.eval_apply-eval_two-requires
 eval_apply-eval_two-requires t c =
@@ -81,13 +85,15 @@ eval_apply-returns-in-len3 t c =
 pub eval_apply-eval_more-requires : goal.eval_apply-eval_more-requires
 eval_apply-eval_more-requires t c =
     let d = c.decreases in
-    let l = apply_later c.requires c.as_slice.ensures.value in
+    let e = c.as_slice.ensures.value in
+    let l = apply_later c.requires e in
     let w = c.requires.ready.stands.within in
-    (omega (arith, d, l, w), apply_ready c.requires _ _ c.as_slice.ensures.value)
+    (omega (arith, d, l, w), apply_ready c.requires _ _ e)
 
 pub eval_apply-returns-in_default : goal.eval_apply-returns-in_default
 eval_apply-returns-in_default t c =
-    IfOk-weaker _ _ _ (λ b d. apply_built c.requires _ _ c.as_slice.ensures.value d) c.eval_more.ensures
+    let e = c.as_slice.ensures.value in
+    IfOk-weaker _ _ _ (λ b d. apply_built c.requires _ _ e d) c.eval_more.ensures
 
 pub eval_more-eval_kids-requires : goal.eval_more-eval_kids-requires
 eval_more-eval_kids-requires t c =
@@ -100,15 +106,21 @@ eval_more-returns t c =
     at c.in_ok-bound.ensures in
     built_all (ap any_bounds_in c.in_ok-args.ensures.items) c.in_ok-eval_kids.ensures value
 
-pub eval_one-eval_argument-requires : goal.eval_one-eval_argument-requires
-eval_one-eval_argument-requires t c =
+pub eval_one-held-requires : goal.eval_one-held-requires
+eval_one-held-requires t c = c.requires.0.stands
+
+pub eval_one-eval-requires : goal.eval_one-eval-requires
+eval_one-eval-requires t c =
     let d = c.decreases in
     (omega (arith, d), c.requires.0)
 
-pub eval_one-returns : goal.eval_one-returns
-eval_one-returns t c =
-    IfOk-weaker _ _ _ (λ b e. built_one c.args.kid c.in_ok-a.ensures
-    (rw (c.seen.ensures, c.ceiling_of-ceiling.ensures) at e)) c.of_one.ensures
+pub eval_one-returns-in-Some : goal.eval_one-returns-in-Some
+eval_one-returns-in-Some t c =
+    IfOk-weaker _ _ _ (λ b e. built_one c.args.kid (c.in-Some.ensures _ c.requires.0) e) c.of_one.ensures
+
+pub eval_one-returns-in_ok-made-in-None : goal.eval_one-returns-in_ok-made-in-None
+eval_one-returns-in_ok-made-in-None t c =
+    IfOk-weaker _ _ _ (λ b e. built_one c.args.kid c.in_ok-made-in-None.ensures e) c.make_one.ensures
 
 pub eval_two-eval_argument-requires : goal.eval_two-eval_argument-requires
 eval_two-eval_argument-requires t c =
@@ -124,13 +136,8 @@ eval_two-eval_argument-requires-2 t c =
 
 pub eval_two-returns : goal.eval_two-returns
 eval_two-returns t c =
-    IfOk-weaker _ _ _ (λ b e. built_two c.args.first c.args.second c.in_ok-a.ensures c.in_ok-b.ensures
-    (rw (c.seen-first.ensures, c.seen-second.ensures, c.ceiling_of-ceiling.ensures) at e)) c.of_two.ensures
-
-pub eval_two-returns-then-makes_pair : goal.eval_two-returns-then-makes_pair
-eval_two-returns-then-makes_pair t c =
-    IfOk-weaker _ _ _ (λ b e. built_two c.args.first c.args.second c.in_ok-a.ensures c.in_ok-b.ensures
-    (e ∙ sym (c.makes_pair.ensures c.if-makes_pair.true _ _))) c.paired.ensures
+    IfOk-weaker _ _ _ (λ b e. built_two c.args.first c.args.second c.in_ok-a.ensures c.in_ok-b.ensures e)
+    c.make_two.ensures
 
 pub eval_three-eval_argument-requires : goal.eval_three-eval_argument-requires
 eval_three-eval_argument-requires t c =
@@ -156,9 +163,7 @@ eval_three-eval_argument-requires-3 t c =
 pub eval_three-returns : goal.eval_three-returns
 eval_three-returns t c =
     IfOk-weaker _ _ _ (λ b e. built_three c.args.first c.args.second c.args.third c.in_ok-a.ensures c.in_ok-b.ensures
-    c.in_ok-c.ensures
-    (rw (c.seen-first.ensures, c.seen-second.ensures, c.seen-third.ensures, c.ceiling_of-ceiling.ensures) at e))
-    c.of_three.ensures
+    c.in_ok-c.ensures e) c.make_three.ensures
 
 pub eval_argument-held-requires : goal.eval_argument-held-requires
 eval_argument-held-requires t c = c.requires.stands
@@ -201,19 +206,18 @@ eval_nbr-eval-requires t c =
     let w = c.requires.ready.stands.within in
     (omega (arith, d, m, w), r.1)
 
-pub eval_nbr-seat_field-requires : goal.eval_nbr-seat_field-requires
-eval_nbr-seat_field-requires t c =
+pub eval_nbr-hear-requires : goal.eval_nbr-hear-requires
+eval_nbr-hear-requires t c =
     let h = nbr_there c.requires c.slot_of-slot.ensures in
-    h.1
-
-pub eval_nbr-put-requires : goal.eval_nbr-put-requires
-eval_nbr-put-requires t c =
-    slots_long _ _ (nbr_within c.requires c.slot_of-slot.ensures c.in_ok-bound.ensures)
+    record {
+      seats = h.1;
+      within = slots_long _ _ (nbr_within c.requires c.slot_of-slot.ensures c.in_ok-bound.ensures);
+    }
 
 pub eval_nbr-returns : goal.eval_nbr-returns
 eval_nbr-returns t c =
-    rw (c.in_ok-field.ensures, c.in_ok-copy_bound.ensures, c.put.ensures, c.into_local-own.ensures)
-    (nbr_done c.requires _ _ c.index.ensures c.slot_of-slot.ensures c.in_ok-bound.ensures)
+    IfOk-weaker _ _ _ (λ b h. nbr_heard c.requires _ _ c.index.ensures c.slot_of-slot.ensures c.in_ok-bound.ensures h)
+    c.hear.ensures
 
 pub eval_evolve-index-requires : goal.eval_evolve-index-requires
 eval_evolve-index-requires t c =
@@ -248,16 +252,15 @@ eval_evolve-eval-requires-2 t c =
     let w = c.requires.ready.stands.within in
     (omega (arith, d, m, w), r.1)
 
-pub eval_evolve-put-requires : goal.eval_evolve-put-requires
-eval_evolve-put-requires t c =
+pub eval_evolve-keep-requires : goal.eval_evolve-keep-requires
+eval_evolve-keep-requires t c =
     slots_long _ _ (evolve_within c.requires _ _ c.index.ensures c.in_ok-first.ensures c.slot_of-slot.ensures
     c.in_ok-bound.ensures)
 
 pub eval_evolve-returns : goal.eval_evolve-returns
 eval_evolve-returns t c =
-    rw (c.put.ensures, c.in_ok-copy_bound.ensures, c.into_local-own.ensures)
-    (evolve_done c.requires _ _ c.index.ensures c.in_ok-first.ensures c.slot_of-slot.ensures c.index-2.ensures
-    (rw c.into_local.ensures at c.in_ok-start.ensures) (rw c.lend.ensures at c.in_ok-bound.ensures))
+    IfOk-weaker _ _ _ (λ b h. evolve_kept c.requires _ _ c.index.ensures c.in_ok-first.ensures c.slot_of-slot.ensures
+    c.index-2.ensures c.in_ok-start.ensures (rw c.lend.ensures at c.in_ok-bound.ensures) h) c.keep.ensures
 
 pub eval_if-index-requires : goal.eval_if-index-requires
 eval_if-index-requires t c =
@@ -285,15 +288,15 @@ eval_if-eval-requires t c =
     let w = c.requires.ready.stands.within in
     (omega (arith, d, m, w), r.1)
 
-pub eval_if-put-requires : goal.eval_if-put-requires
-eval_if-put-requires t c =
+pub eval_if-decide-requires : goal.eval_if-decide-requires
+eval_if-decide-requires t c =
     slots_long _ _ (if_there c.requires _ _ c.slot_of-slot.ensures c.index.ensures c.in_ok-condition.ensures refl)
 
 pub eval_if-eval_branch-requires : goal.eval_if-eval_branch-requires
 eval_if-eval_branch-requires t c =
     let d = c.decreases in
     let r = if_true c.requires _ _ c.slot_of-slot.ensures c.index.ensures c.in_ok-condition.ensures
-    (rw c.into_local.ensures at c.put.ensures) c.index-2.ensures in
+    c.decide.ensures c.index-2.ensures in
     let m = r.0 in
     let w = c.requires.ready.stands.within in
     (omega (arith, d, m, w), r.1)
@@ -302,7 +305,7 @@ pub eval_if-eval_branch-requires-2 : goal.eval_if-eval_branch-requires-2
 eval_if-eval_branch-requires-2 t c =
     let d = c.decreases in
     let r = if_false c.requires _ _ c.slot_of-slot.ensures c.index.ensures c.in_ok-condition.ensures
-    (rw c.into_local.ensures at c.put.ensures) c.index-2.ensures _ _ c.in_ok-first.ensures c.index-3.ensures in
+    c.decide.ensures c.index-2.ensures _ _ c.in_ok-first.ensures c.index-3.ensures in
     let m = r.0 in
     let w = c.requires.ready.stands.within in
     (omega (arith, d, m, w), r.1)
@@ -310,7 +313,7 @@ eval_if-eval_branch-requires-2 t c =
 pub eval_if-returns : goal.eval_if-returns
 eval_if-returns t c =
     if_done c.requires _ _ c.slot_of-slot.ensures c.index.ensures c.in_ok-condition.ensures
-    (rw c.into_local.ensures at c.put.ensures) c.index-2.ensures _ _ c.in_ok-first.ensures c.index-3.ensures _ _
+    c.decide.ensures c.index-2.ensures _ _ c.in_ok-first.ensures c.index-3.ensures _ _
     c.in_ok-second.ensures c.in_ok-bound.ensures
 
 pub eval_let-index-requires-2 : goal.eval_let-index-requires-2
