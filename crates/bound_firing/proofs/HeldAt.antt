@@ -141,11 +141,6 @@ one_item [] h l = absurd (omega (arith, h))
 one_item (k ∷ []) h l = refl
 one_item (k ∷ j ∷ ks) h l = absurd (omega (arith, l))
 
-pub only_item : (ks : List ℕ) {k : ℕ} → k ≡ get_or ks 0 k → length ks ≡ 1 → k ∷ [] ≡ ks
-only_item [] e h = absurd (omega (arith, h))
-only_item (j ∷ []) e h = ap (λ i. i ∷ []) e
-only_item (j ∷ i ∷ ks) e h = absurd (omega (arith, h))
-
 pub two_items : (ks : List ℕ) → 2 ≤ length ks → length ks < 3 → get_or ks 0 0 ∷ get_or ks 1 0 ∷ [] ≡ ks
 two_items [] h l = absurd (omega (arith, h))
 two_items (k ∷ []) h l = absurd (omega (arith, h))

@@ -1,16 +1,16 @@
 -- What the contexts, scopes and sights of code stand for.
-use Rattle.std.specs.Prelude.{ℕ, Bool, ◌≡◌, List, [], ◌∷◌, Option, option_map, slice_set}
+use Rattle.std.specs.Prelude.{ℕ, Bool, ◌≡◌, List, [], ◌∷◌, Option, Some, None, option_map, slice_set}
 use Rattle.fc_values.specs.Types.{type_of}
 use Rattle.fc_nodes.specs.declared.nodes.Node.{Node}
 use Rattle.fc_nodes.specs.Terms.{Evolution, ByRep, ByShare, Sort}
 use Rattle.value_bounds.specs.declared.bounds.LocalBound.{LocalBound}
 use Rattle.value_bounds.specs.declared.bounds.Bound.{Bound}
+use Rattle.value_bounds.specs.declared.bounds.BoundRef.{BoundRef}
 use Rattle.value_bounds.specs.BoundBuiltins.{AnyBound, BoundLocal, BoundField, builtin_bound}
 use Rattle.value_bounds.specs.References.{local_bounds_in, any_bound_in, any_bounds_in}
 use Rattle.value_bounds.specs.References.{lent_bound_in}
 use Rattle.fc_values.specs.declared.builtins.Builtin.{Builtin}
 use Rattle.bound_firing.specs.declared.arguments.Argument.{Argument}
-use Rattle.bound_firing.specs.declared.arguments.Argument.TheVariants as argument
 use Rattle.bound_firing.specs.declared.evaluation.Context.{Context}
 use Rattle.bound_firing.specs.declared.evaluation.Scope.{Scope}
 use Rattle.bound_firing.specs.declared.evaluation.Scope.TheVariants as scope
@@ -42,10 +42,13 @@ abbrev pub evolution_in : CodeEvolution → Evolution
 evolution_in evolution.Rep = ByRep
 evolution_in evolution.Share = ByShare
 
--- the bound of an argument
+-- the bound of an argument: that which a binder holds, or else that which was made
+abbrev pub held_or : Option BoundRef → AnyBound → AnyBound
+held_or (Some b) _ = lent_bound_in b
+held_or None made = made
+
 abbrev pub argument_in : Argument → AnyBound
-argument_in (argument.Made b) = any_bound_in b
-argument_in (argument.Held b) = lent_bound_in b
+argument_in a = held_or a.held (any_bound_in a.made)
 
 abbrev pub maybe_in : Option Bound → Option AnyBound
 maybe_in o = option_map any_bound_in o

@@ -15,7 +15,9 @@ ghost use Rattle.bound_firing.specs.Contexts.{KidsFiredTo, ReadyBranch, BranchFi
 ghost use Rattle.bound_firing.specs.Contexts.{Heard, Kept};
 ghost use Rattle.bound_firing.specs.Seats.{cut_to};
 
-use crate::arguments::{Argument, held, lend_all, make_one, make_three, make_two, of_one, seen};
+use crate::arguments::{
+    Argument, empty_argument, held, lend_all, make_one, make_three, make_two, of_one, seen,
+};
 use crate::seating::{
     cut_to_seats, may_be, own_or_first, seat_field, seat_weights, seats_in_branch, slot_at,
 };
@@ -23,6 +25,7 @@ use crate::seats::Seats;
 use fc_nodes::{Layout, Node, Op, Unfolded, ceiling_of, least_weight, slot_of};
 use fc_values::{Builtin, Local, Memory};
 use std::alloc::Global;
+use std::mem::replace;
 use value_bounds::{
     Bound, BoundRef, LocalBound, bound_of_builtin, copy_bound, either, exactly, lend,
 };
@@ -57,9 +60,9 @@ pub enum Evolution {
     Share,
 }
 
-/// Evaluates a node: the bound of its value, and those of its slots in the draft. Programs may be thousands of nodes
-/// deep. So each kind of node has a function of its own, and what is made of the bounds of a node's kids is made in
-/// others yet, which take these bounds over: a level takes little of the stack.
+/// Evaluates a node: writes the bound of its value over another, and those of its slots into the draft. Programs may be
+/// thousands of nodes deep. So each kind of node has a function of its own, and a bound is made in the place where it
+/// will stand: a level takes little of the stack.
 #[cycle(eval)]
 pub fn eval(
     alloc: Global,
@@ -67,31 +70,40 @@ pub fn eval(
     place: u32,
     sight: &Sight<'_, '_>,
     draft: &mut [LocalBound],
-) -> Result<Bound, Memory>
+    target: &mut Bound,
+) -> Result<(), Memory>
     requires { ReadyIn context.now place sight.now draft.old }
-    ensures { IfOk result (FiredTo context.now place sight.now draft.old draft.new) }
+    ensures { OnOk result (FiredTo context.now place sight.now draft.old draft.new target.new) }
 {
     let node = context.program.node(place);
     match &node.op {
-        Op::Lit(value) => literal(alloc, value),
-        Op::Var(binder) => variable(alloc, sight, *binder),
-        Op::Sense(input) => sensed(alloc, context.inputs, *input),
-        Op::Uid => Ok(Bound::Local(uid(context.device, context.program))),
-        Op::NbrLink => links(alloc, sight.seats, least_weight(context.program)),
-        Op::Apply(builtin) if node.kids.len() == 1 => {
-            eval_one(alloc, context, node.kids[0], *builtin, sight, draft)
+        Op::Lit(value) => literal(alloc, value, target),
+        Op::Var(binder) => variable(alloc, sight, *binder, target),
+        Op::Sense(input) => sensed(alloc, context.inputs, *input, target),
+        Op::Uid => {
+            uid(context, target);
+            Ok(())
         }
-        Op::Apply(builtin) => eval_apply(alloc, context, place, node, *builtin, sight, draft),
-        Op::Nbr => eval_nbr(alloc, context, place, node, sight, draft),
-        Op::If => eval_if(alloc, context, place, node, sight, draft),
-        Op::Let => eval_let(alloc, context, place, node, sight, draft),
-        Op::Rep => eval_evolve(alloc, context, place, node, Evolution::Rep, sight, draft),
-        Op::Share => eval_evolve(alloc, context, place, node, Evolution::Share, sight, draft),
+        Op::NbrLink => links(alloc, sight.seats, least_weight(context.program), target),
+        Op::Apply(builtin) => {
+            eval_apply(alloc, context, place, node, *builtin, sight, draft, target)
+        }
+        Op::Nbr => eval_nbr(alloc, context, place, node, sight, draft, target),
+        Op::If => eval_if(alloc, context, place, node, sight, draft, target),
+        Op::Let => eval_let(alloc, context, place, node, sight, draft, target),
+        Op::Rep => {
+            let rep = Evolution::Rep;
+            eval_evolve(alloc, context, place, node, rep, sight, draft, target)
+        }
+        Op::Share => {
+            let share = Evolution::Share;
+            eval_evolve(alloc, context, place, node, share, sight, draft, target)
+        }
     }
 }
 
 #[cycle(eval)]
-#[inline(never)]
+#[inline(always)]
 fn eval_apply(
     alloc: Global,
     context: &Context<'_>,
@@ -100,14 +112,16 @@ fn eval_apply(
     builtin: Builtin,
     sight: &Sight<'_, '_>,
     draft: &mut [LocalBound],
-) -> Result<Bound, Memory>
+    target: &mut Bound,
+) -> Result<(), Memory>
     requires { ReadyFor context.now place sight.now node.now (OfApply builtin) draft.old }
-    ensures { IfOk result (FiredTo context.now place sight.now draft.old draft.new) }
+    ensures { OnOk result (FiredTo context.now place sight.now draft.old draft.new target.new) }
 {
     match node.kids.as_slice() {
-        [a, b] => eval_two(alloc, context, *a, *b, builtin, sight, draft),
-        [a, b, c] => eval_three(alloc, context, *a, *b, *c, builtin, sight, draft),
-        kids => eval_more(alloc, context, kids, builtin, sight, draft),
+        [a] => eval_one(alloc, context, *a, builtin, sight, draft, target),
+        [a, b] => eval_two(alloc, context, *a, *b, builtin, sight, draft, target),
+        [a, b, c] => eval_three(alloc, context, *a, *b, *c, builtin, sight, draft, target),
+        kids => eval_more(alloc, context, kids, builtin, sight, draft, target),
     }
 }
 
@@ -121,15 +135,16 @@ fn eval_one(
     builtin: Builtin,
     sight: &Sight<'_, '_>,
     draft: &mut [LocalBound],
-) -> Result<Bound, Memory>
+    target: &mut Bound,
+) -> Result<(), Memory>
     requires { ReadyKids context.now (kid ∷ []) sight.now draft.old }
-    ensures { IfOk result (BuiltOf context.now builtin (kid ∷ []) sight.now draft.old draft.new) }
+    ensures { OnOk result (BuiltOf context.now builtin (kid ∷ []) sight.now draft.old draft.new target.new) }
 {
     match held(context, kid, sight) {
-        Some(bound) => of_one(alloc, context, builtin, bound),
+        Some(bound) => of_one(alloc, context, builtin, bound, target),
         None => {
-            let made = eval(alloc, context, kid, sight, draft)?;
-            make_one(alloc, context, builtin, made)
+            eval(alloc, context, kid, sight, draft, target)?;
+            make_one(alloc, context, builtin, target)
         }
     }
 }
@@ -145,13 +160,16 @@ fn eval_two(
     builtin: Builtin,
     sight: &Sight<'_, '_>,
     draft: &mut [LocalBound],
-) -> Result<Bound, Memory>
+    target: &mut Bound,
+) -> Result<(), Memory>
     requires { ReadyKids context.now (first ∷ second ∷ []) sight.now draft.old }
-    ensures { IfOk result (BuiltOf context.now builtin (first ∷ second ∷ []) sight.now draft.old draft.new) }
+    ensures { OnOk result (BuiltOf context.now builtin (first ∷ second ∷ []) sight.now draft.old draft.new target.new) }
 {
-    let a = eval_argument(alloc, context, first, sight, draft)?;
-    let b = eval_argument(alloc, context, second, sight, draft)?;
-    make_two(alloc, context, builtin, a, b)
+    let mut a = empty_argument();
+    let mut b = empty_argument();
+    eval_argument(alloc, context, first, sight, draft, &mut a)?;
+    eval_argument(alloc, context, second, sight, draft, &mut b)?;
+    make_two(alloc, context, builtin, &mut a, &mut b, target)
 }
 
 // What a builtin makes of three arguments.
@@ -166,14 +184,19 @@ fn eval_three(
     builtin: Builtin,
     sight: &Sight<'_, '_>,
     draft: &mut [LocalBound],
-) -> Result<Bound, Memory>
+    target: &mut Bound,
+) -> Result<(), Memory>
     requires { ReadyKids context.now (first ∷ second ∷ third ∷ []) sight.now draft.old }
-    ensures { IfOk result (BuiltOf context.now builtin (first ∷ second ∷ third ∷ []) sight.now draft.old draft.new) }
+    ensures { OnOk result (BuiltOf context.now builtin (first ∷ second ∷ third ∷ []) sight.now draft.old draft.new
+        target.new) }
 {
-    let a = eval_argument(alloc, context, first, sight, draft)?;
-    let b = eval_argument(alloc, context, second, sight, draft)?;
-    let c = eval_argument(alloc, context, third, sight, draft)?;
-    make_three(alloc, context, builtin, a, b, c)
+    let mut a = empty_argument();
+    let mut b = empty_argument();
+    let mut c = empty_argument();
+    eval_argument(alloc, context, first, sight, draft, &mut a)?;
+    eval_argument(alloc, context, second, sight, draft, &mut b)?;
+    eval_argument(alloc, context, third, sight, draft, &mut c)?;
+    make_three(alloc, context, builtin, &a, &b, &c, target)
 }
 
 // What a builtin makes of any number of arguments.
@@ -186,16 +209,17 @@ fn eval_more(
     builtin: Builtin,
     sight: &Sight<'_, '_>,
     draft: &mut [LocalBound],
-) -> Result<Bound, Memory>
+    target: &mut Bound,
+) -> Result<(), Memory>
     requires { ReadyKids context.now kids.now sight.now draft.old }
-    ensures { IfOk result (BuiltOf context.now builtin kids.now sight.now draft.old draft.new) }
+    ensures { OnOk result (BuiltOf context.now builtin kids.now sight.now draft.old draft.new target.new) }
 {
     let mut args = Vec::with_capacity(alloc, kids.len())?;
     eval_kids(alloc, context, kids, sight, draft, &mut args)?;
     let lent = lend_all(alloc, &args)?;
     let ceiling = ceiling_of(context.program);
-    let bound = bound_of_builtin(alloc, builtin, &lent, context.device, ceiling)?;
-    Ok(bound)
+    *target = bound_of_builtin(alloc, builtin, &lent, context.device, ceiling)?;
+    Ok(())
 }
 
 // Evaluates nodes one after another, and adds the bounds of their values.
@@ -215,7 +239,8 @@ fn eval_kids(
     let Some((first, rest)) = kids.split_first() else {
         return Ok(());
     };
-    let bound = eval(alloc, context, *first, sight, draft)?;
+    let mut bound = Bound::Any;
+    eval(alloc, context, *first, sight, draft, &mut bound)?;
     args.push(bound)?;
     eval_kids(alloc, context, rest, sight, draft, args)?;
     Ok(())
@@ -230,15 +255,19 @@ fn eval_argument<'a>(
     place: u32,
     sight: &Sight<'a, '_>,
     draft: &mut [LocalBound],
-) -> Result<Argument<'a>, Memory>
+    argument: &mut Argument<'a>,
+) -> Result<(), Memory>
     requires { ReadyIn context.now place sight.now draft.old }
-    ensures { IfOk result (SeenTo context.now place sight.now draft.old draft.new) }
+    ensures { OnOk result (SeenTo context.now place sight.now draft.old draft.new argument.new) }
 {
     match held(context, place, sight) {
-        Some(bound) => Ok(Argument::Held(bound)),
+        Some(bound) => {
+            argument.held = Some(bound);
+            Ok(())
+        }
         None => {
-            let bound = eval(alloc, context, place, sight, draft)?;
-            Ok(Argument::Made(bound))
+            argument.held = None;
+            eval(alloc, context, place, sight, draft, &mut argument.made)
         }
     }
 }
@@ -252,32 +281,33 @@ fn eval_nbr(
     node: &Node,
     sight: &Sight<'_, '_>,
     draft: &mut [LocalBound],
-) -> Result<Bound, Memory>
+    target: &mut Bound,
+) -> Result<(), Memory>
     requires { ReadyFor context.now place sight.now node.now OfNbr draft.old }
-    ensures { IfOk result (FiredTo context.now place sight.now draft.old draft.new) }
+    ensures { OnOk result (FiredTo context.now place sight.now draft.old draft.new target.new) }
 {
     let slot = slot_of(context.layout, place);
-    let bound = eval(alloc, context, node.kids[0], sight, draft)?;
-    hear(alloc, sight.seats, slot, bound, draft)
+    eval(alloc, context, node.kids[0], sight, draft, target)?;
+    hear(alloc, sight.seats, slot, draft, target)
 }
 
 // The field of what the neighbours have in a slot, with a new bound at the device itself, which the slot keeps.
-#[inline(never)]
 fn hear(
     alloc: Global,
     seats: &Seats<'_>,
     slot: u32,
-    bound: Bound,
     draft: &mut [LocalBound],
-) -> Result<Bound, Memory>
+    target: &mut Bound,
+) -> Result<(), Memory>
     requires seats { SlotsHave slot (flat_seats_in seats.now) }
     requires within { slot < length draft.old }
-    ensures { IfOk result (Heard slot seats.now bound draft.old draft.new) }
+    ensures { OnOk result (Heard slot seats.now target.old draft.old draft.new target.new) }
 {
-    let own = into_local(bound);
+    let own = take_local(target);
     let field = seat_field(alloc, seats, slot, copy_bound(alloc, &own)?)?;
     put(draft, slot, own);
-    Ok(Bound::Field(field))
+    *target = Bound::Field(field);
+    Ok(())
 }
 
 #[cycle(eval)]
@@ -290,31 +320,38 @@ fn eval_evolve(
     evolution: Evolution,
     sight: &Sight<'_, '_>,
     draft: &mut [LocalBound],
-) -> Result<Bound, Memory>
+    target: &mut Bound,
+) -> Result<(), Memory>
     requires { ReadyFor context.now place sight.now node.now (OfEvolve (evolution_in evolution)) draft.old }
-    ensures { IfOk result (FiredTo context.now place sight.now draft.old draft.new) }
+    ensures { OnOk result (FiredTo context.now place sight.now draft.old draft.new target.new) }
 {
     let slot = slot_of(context.layout, place);
-    let first = eval(alloc, context, node.kids[0], sight, draft)?;
-    let start = starting_bound(alloc, evolution, sight.seats, slot, first)?;
+    let mut start = Bound::Any;
+    eval(alloc, context, node.kids[0], sight, draft, &mut start)?;
+    begin(alloc, evolution, sight.seats, slot, &mut start)?;
     let evolving = Scope::Bind(place, lend(&start), sight.vars);
     let body = Sight {
         seats: sight.seats,
         vars: &evolving,
     };
-    let bound = eval(alloc, context, node.kids[1], &body, draft)?;
-    keep(alloc, slot, bound, draft)
+    eval(alloc, context, node.kids[1], &body, draft, target)?;
+    keep(alloc, slot, draft, target)
 }
 
 // A new bound, which the slot keeps.
-#[inline(never)]
-fn keep(alloc: Global, slot: u32, bound: Bound, draft: &mut [LocalBound]) -> Result<Bound, Memory>
+fn keep(
+    alloc: Global,
+    slot: u32,
+    draft: &mut [LocalBound],
+    target: &mut Bound,
+) -> Result<(), Memory>
     requires { slot < length draft.old }
-    ensures { IfOk result (Kept slot bound draft.old draft.new) }
+    ensures { OnOk result (Kept slot target.old draft.old draft.new target.new) }
 {
-    let own = into_local(bound);
+    let own = take_local(target);
     put(draft, slot, copy_bound(alloc, &own)?);
-    Ok(Bound::Local(own))
+    *target = Bound::Local(own);
+    Ok(())
 }
 
 #[cycle(eval)]
@@ -326,27 +363,18 @@ fn eval_if(
     node: &Node,
     sight: &Sight<'_, '_>,
     draft: &mut [LocalBound],
-) -> Result<Bound, Memory>
+    target: &mut Bound,
+) -> Result<(), Memory>
     requires { ReadyFor context.now place sight.now node.now OfIf draft.old }
-    ensures { IfOk result (FiredTo context.now place sight.now draft.old draft.new) }
+    ensures { OnOk result (FiredTo context.now place sight.now draft.old draft.new target.new) }
 {
     let slot = slot_of(context.layout, place);
-    let condition = eval(alloc, context, node.kids[0], sight, draft)?;
-    decide(slot, condition, draft);
+    eval(alloc, context, node.kids[0], sight, draft, target)?;
+    put(draft, slot, take_local(target));
     let first = eval_branch(alloc, context, node.kids[1], slot, true, sight, draft)?;
     let second = eval_branch(alloc, context, node.kids[2], slot, false, sight, draft)?;
-    let bound = either_of(alloc, first, second)?;
-    Ok(bound)
-}
-
-// The bound of a condition, in the slot of its `if`.
-#[inline(never)]
-fn decide(slot: u32, condition: Bound, draft: &mut [LocalBound])
-    requires { slot < length draft.old }
-    ensures { local_bounds_in draft.new
-        ≡ slice_set (local_bounds_in draft.old) slot (local_part (any_bound_in condition)) }
-{
-    put(draft, slot, into_local(condition));
+    *target = either_of(alloc, first, second)?;
+    Ok(())
 }
 
 // Evaluates a branch of the `if` with a slot, unless the bound there says that it isn't taken.
@@ -372,7 +400,8 @@ fn eval_branch(
         seats: &seats,
         vars: sight.vars,
     };
-    let bound = eval(alloc, context, place, &taken, draft)?;
+    let mut bound = Bound::Any;
+    eval(alloc, context, place, &taken, draft, &mut bound)?;
     Ok(Some(bound))
 }
 
@@ -385,17 +414,19 @@ fn eval_let(
     node: &Node,
     sight: &Sight<'_, '_>,
     draft: &mut [LocalBound],
-) -> Result<Bound, Memory>
+    target: &mut Bound,
+) -> Result<(), Memory>
     requires { ReadyFor context.now place sight.now node.now OfLet draft.old }
-    ensures { IfOk result (FiredTo context.now place sight.now draft.old draft.new) }
+    ensures { OnOk result (FiredTo context.now place sight.now draft.old draft.new target.new) }
 {
-    let value = eval_argument(alloc, context, node.kids[0], sight, draft)?;
+    let mut value = empty_argument();
+    eval_argument(alloc, context, node.kids[0], sight, draft, &mut value)?;
     let inner = Scope::Bind(place, seen(&value), sight.vars);
     let body = Sight {
         seats: sight.seats,
         vars: &inner,
     };
-    eval(alloc, context, node.kids[1], &body, draft)
+    eval(alloc, context, node.kids[1], &body, draft, target)
 }
 
 /// The bound of a binder's value: that of the nearest binder in scope with its place.
@@ -414,68 +445,94 @@ pub fn in_scope<'a>(vars: &Scope<'a>, binder: u32) -> BoundRef<'a>
 
 // The bound of a variable where it is seen.
 #[inline(never)]
-fn variable(alloc: Global, sight: &Sight<'_, '_>, binder: u32) -> Result<Bound, Memory>
-    ensures { IfOk result (λ b. any_bound_in b ≡ cut_to (flat_maybes (flat_seats_in sight.now.seats.now).near)
+fn variable(
+    alloc: Global,
+    sight: &Sight<'_, '_>,
+    binder: u32,
+    target: &mut Bound,
+) -> Result<(), Memory>
+    ensures { OnOk result (any_bound_in target.new ≡ cut_to (flat_maybes (flat_seats_in sight.now.seats.now).near)
         (variable_bound binder (vars_in sight.now.vars.now))) }
 {
-    cut_to_seats(alloc, &in_scope(sight.vars, binder), sight.seats)
+    *target = cut_to_seats(alloc, &in_scope(sight.vars, binder), sight.seats)?;
+    Ok(())
 }
 
 // The bound of a literal.
 #[inline(never)]
-fn literal(alloc: Global, value: &Local) -> Result<Bound, Memory>
-    ensures { IfOk result (λ b. any_bound_in b ≡ BoundLocal (exactly_of (local_of value.now))) }
+fn literal(alloc: Global, value: &Local, target: &mut Bound) -> Result<(), Memory>
+    ensures { OnOk result (any_bound_in target.new ≡ BoundLocal (exactly_of (local_of value.now))) }
 {
-    Ok(Bound::Local(exactly(alloc, value)?))
+    *target = Bound::Local(exactly(alloc, value)?);
+    Ok(())
 }
 
 // The bound of an input.
 #[inline(never)]
-fn sensed(alloc: Global, inputs: &[LocalBound], index: u32) -> Result<Bound, Memory>
-    ensures { IfOk result (λ b. any_bound_in b
+fn sensed(
+    alloc: Global,
+    inputs: &[LocalBound],
+    index: u32,
+    target: &mut Bound,
+) -> Result<(), Memory>
+    ensures { OnOk result (any_bound_in target.new
         ≡ BoundLocal (bound_of_input (slice_get (local_bounds_in inputs.now) index))) }
 {
     match inputs.get(index as usize) {
-        Some(bound) => Ok(Bound::Local(copy_bound(alloc, bound)?)),
-        None => Ok(Bound::Local(LocalBound::Unbounded)),
+        Some(bound) => {
+            *target = Bound::Local(copy_bound(alloc, bound)?);
+            Ok(())
+        }
+        None => {
+            *target = Bound::Local(LocalBound::Unbounded);
+            Ok(())
+        }
     }
 }
 
 // The bound of the field of the links' weights.
 #[inline(never)]
-fn links(alloc: Global, seats: &Seats<'_>, least: u32) -> Result<Bound, Memory>
-    ensures { IfOk result (λ b. any_bound_in b ≡ BoundField (Between least least)
+fn links(alloc: Global, seats: &Seats<'_>, least: u32, target: &mut Bound) -> Result<(), Memory>
+    ensures { OnOk result (any_bound_in target.new ≡ BoundField (Between least least)
         (flat_entries flat_weight (flat_seats_in seats.now).near)) }
 {
-    Ok(Bound::Field(seat_weights(alloc, seats, least)?))
+    *target = Bound::Field(seat_weights(alloc, seats, least)?);
+    Ok(())
 }
 
-// The bound of a device's number, capped at the ceiling.
-fn uid(device: u32, program: &Unfolded) -> LocalBound
-    ensures { local_bound_in result ≡ Between (min device program.now.declared.ceiling)
-        (min device program.now.declared.ceiling) }
-{
-    let number = device.min(ceiling_of(program));
-    LocalBound::Between(number, number)
-}
-
-// What the variable of an evolving value starts from.
+// The bound of the device's number, capped at the ceiling.
 #[inline(never)]
-fn starting_bound(
+fn uid(context: &Context<'_>, target: &mut Bound)
+    ensures { any_bound_in target.new ≡ BoundLocal (Between
+        (min context.now.device context.now.program.now.declared.ceiling)
+        (min context.now.device context.now.program.now.declared.ceiling)) }
+{
+    let number = context.device.min(ceiling_of(context.program));
+    *target = Bound::Local(LocalBound::Between(number, number));
+}
+
+// What the variable of an evolving value starts from, in place of the bound of its first value.
+fn begin(
     alloc: Global,
     evolution: Evolution,
     seats: &Seats<'_>,
     slot: u32,
-    first: Bound,
-) -> Result<Bound, Memory>
+    start: &mut Bound,
+) -> Result<(), Memory>
     requires { SlotsHave slot (flat_seats_in seats.now) }
-    ensures { IfOk result (λ b. any_bound_in b ≡ started (evolution_in evolution) slot (flat_seats_in seats.now)
-        (local_part (any_bound_in first))) }
+    ensures { OnOk result (any_bound_in start.new ≡ started (evolution_in evolution) slot (flat_seats_in seats.now)
+        (local_part (any_bound_in start.old))) }
 {
-    let own = own_or_first(alloc, seats, slot, into_local(first))?;
+    let own = own_or_first(alloc, seats, slot, take_local(start))?;
     match evolution {
-        Evolution::Rep => Ok(Bound::Local(own)),
-        Evolution::Share => Ok(Bound::Field(seat_field(alloc, seats, slot, own)?)),
+        Evolution::Rep => {
+            *start = Bound::Local(own);
+            Ok(())
+        }
+        Evolution::Share => {
+            *start = Bound::Field(seat_field(alloc, seats, slot, own)?);
+            Ok(())
+        }
     }
 }
 
@@ -492,12 +549,12 @@ fn either_of(alloc: Global, first: Option<Bound>, second: Option<Bound>) -> Resu
     }
 }
 
-/// The bound of a local value out of a bound; a field has none.
-pub fn into_local(bound: Bound) -> LocalBound
-    ensures { local_bound_in result ≡ local_part (any_bound_in bound) }
+/// The bound of a local value, taken out of a bound; a field has none.
+pub fn take_local(bound: &mut Bound) -> LocalBound
+    ensures { local_bound_in result ≡ local_part (any_bound_in bound.old) }
 {
     match bound {
-        Bound::Local(local) => local,
+        Bound::Local(local) => replace(local, LocalBound::Unbounded),
         Bound::Field(_) | Bound::Any => LocalBound::Unbounded,
     }
 }

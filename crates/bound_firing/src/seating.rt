@@ -21,7 +21,6 @@ use value_bounds::{Bound, BoundEntry, BoundRef, FieldBound, LocalBound, copy_bou
 
 /// The seats in the branch of a truth value: those whose bound in the slot of an `if` holds it. One is sure there where
 /// it was before and its bound is known.
-#[inline(never)]
 pub fn seats_in_branch<'a>(
     alloc: Global,
     seats: &Seats<'a>,
@@ -141,7 +140,6 @@ pub fn own_or_first(
 
 /// A bound of a variable's value as it is at these seats: that of a field is cut down to their neighbours, and one is
 /// sure where it was before and has a sure seat.
-#[inline(never)]
 pub fn cut_to_seats(alloc: Global, bound: &BoundRef<'_>, seats: &Seats<'_>) -> Result<Bound, Memory>
     ensures { IfOk result (λ b. any_bound_in b
         ≡ cut_to (flat_maybes (flat_seats_in seats.now).near) (lent_bound_in bound.now)) }
