@@ -167,3 +167,8 @@ module _ {ns : List Node} {lay : LayoutValue} {p : ℕ} {e : Evolution} {t : Val
         (sym (slot_as n))
         (subst (λ u. Did S p u K vars F xs (BoundLocal (local_part vb)) (slice_set zs K (local_part vb))) (sym o.term)
         (evolve_did t e A B K F xs can_e S p vars va ys did_a vb zs d))
+
+    pub evolve_kept : {k : ℕ} → number_in lay p ≡ Some k → {q' : ℕ} → q' ≡ get_or ks 1 q' → {x vb y : AnyBound}
+        {zs ws : List BoundValue} → x ≡ started e k F (local_part va) → DidAt S ns q' ((p, x) ∷ vars) F ys vb zs
+        → (y ≡ BoundLocal (local_part vb)) × (ws ≡ slice_set zs k (local_part vb)) → DidAt S ns p vars F xs y ws
+    evolve_kept n f s did' h = rw (h.0, h.1) (evolve_done n f s did')

@@ -109,3 +109,9 @@ module _ {ns : List Node} {lay : LayoutValue} {p : ℕ} {t : ValueType} {ks : Li
       (slice_set ys j (local_part va))) (sym (slot_as n))
       (subst (λ u. Did S p u K vars F xs (BoundField (local_part va) (flat_entries (flat_slot K) F.near))
       (slice_set ys K (local_part va))) (sym o.term) (nbr_did t A K F xs can_n S p vars va ys d))
+
+  pub nbr_heard : (S : BoundSituation) (vars : BoundVars) {q : ℕ} → q ≡ get_or ks 0 q → {k : ℕ}
+      → number_in lay p ≡ Some k → {va x : AnyBound} {ys zs : List BoundValue} → DidAt S ns q vars F xs va ys
+      → (x ≡ BoundField (local_part va) (flat_entries (flat_slot k) F.near)) × (zs ≡ slice_set ys k (local_part va))
+      → DidAt S ns p vars F xs x zs
+  nbr_heard S vars e n did h = rw (h.0, h.1) (nbr_done S vars e n did)

@@ -1,6 +1,6 @@
 //! Arguments of builtins: bounds that are made for them, and those that binders in scope hold.
 
-ghost use Rattle.std.specs.Prelude.{ℕ, [], ◌∷◌, ◌≡◌, IfOk, IfSome, IsTrue};
+ghost use Rattle.std.specs.Prelude.{ℕ, [], ◌∷◌, ◌≡◌, IfOk, IfSome, IsTrue, OnOk};
 ghost use Rattle.fc_values.specs.Types.{type_of};
 ghost use Rattle.fc_nodes.specs.Terms.{HasNode, OfApply};
 ghost use Rattle.device_eval.specs.Walks.{Stands};
@@ -9,30 +9,38 @@ ghost use Rattle.value_bounds.specs.BoundBuiltins.{BoundLocal, builtin_bound};
 ghost use Rattle.value_bounds.specs.References.{any_bound_in, any_bounds_in, lent_bound_in, lent_bounds_in};
 ghost use Rattle.value_bounds.specs.References.{local_bound_in};
 ghost use Rattle.bound_firing.specs.Firing.{local_part};
-ghost use Rattle.bound_firing.specs.Contexts.{IsHeld, argument_in};
+ghost use Rattle.bound_firing.specs.Contexts.{IsHeld, IsMade, argument_in};
 ghost use Rattle.bound_firing.specs.Held.{is_local as is_bound_of_local};
 
-use crate::evaluation::{Context, Sight, in_scope};
+use crate::evaluation::{Context, Sight, in_scope, take_local};
 use crate::seating::as_it_is;
-use fc_nodes::{Node, Op};
+use fc_nodes::{Node, Op, ceiling_of};
 use fc_values::{Builtin, Memory};
 use std::alloc::Global;
 use value_bounds::{Bound, BoundRef, LocalBound, bound_of_builtin, copy_bound, lend};
 
-/// The bound of an argument: made for it, or held by a binder in scope.
+/// The bound of an argument: held by a binder in scope, or else made for it.
 #[derive(Drop)]
-pub enum Argument<'a> {
-    Made(Bound),
-    Held(BoundRef<'a>),
+pub struct Argument<'a> {
+    pub held: Option<BoundRef<'a>>,
+    pub made: Bound,
+}
+
+/// An argument of which nothing is known yet.
+pub fn empty_argument<'a>() -> Argument<'a> {
+    Argument {
+        held: None,
+        made: Bound::Any,
+    }
 }
 
 /// The bound of an argument, to be looked at.
 pub fn seen<'a>(argument: &'a Argument<'_>) -> BoundRef<'a>
     ensures { lent_bound_in result ≡ argument_in argument.now }
 {
-    match argument {
-        Argument::Made(bound) => lend(bound),
-        Argument::Held(bound) => *bound,
+    match &argument.held {
+        Some(bound) => *bound,
+        None => lend(&argument.made),
     }
 }
 
@@ -108,53 +116,92 @@ fn local_component<'a>(builtin: Builtin, local: &'a LocalBound) -> Option<&'a Lo
     }
 }
 
-/// What a builtin makes of one argument.
-pub fn of_one<'a>(
+/// Writes what a builtin makes of one argument over another bound.
+pub fn of_one(
     alloc: Global,
+    context: &Context<'_>,
     builtin: Builtin,
-    a: BoundRef<'a>,
-    device: u32,
-    ceiling: u32,
-) -> Result<Bound, Memory>
-    ensures { IfOk result (λ r.
-        any_bound_in r ≡ builtin_bound builtin ceiling device (lent_bound_in a.entry ∷ [])) }
+    a: BoundRef<'_>,
+    target: &mut Bound,
+) -> Result<(), Memory>
+    ensures { OnOk result (IsMade context.now builtin (lent_bound_in a.entry ∷ []) target.new) }
 {
-    bound_of_builtin(alloc, builtin, &[a], device, ceiling)
+    let ceiling = ceiling_of(context.program);
+    *target = bound_of_builtin(alloc, builtin, &[a], context.device, ceiling)?;
+    Ok(())
 }
 
-/// What a builtin makes of two arguments.
-pub fn of_two<'a>(
+/// Writes what a builtin makes of one argument over the bound of the argument.
+pub fn make_one(
     alloc: Global,
+    context: &Context<'_>,
+    builtin: Builtin,
+    target: &mut Bound,
+) -> Result<(), Memory>
+    ensures { OnOk result (IsMade context.now builtin (any_bound_in target.old ∷ []) target.new) }
+{
+    let ceiling = ceiling_of(context.program);
+    *target = bound_of_builtin(alloc, builtin, &[lend(target)], context.device, ceiling)?;
+    Ok(())
+}
+
+/// Writes what a builtin makes of two arguments, which it may take over, over another bound.
+pub fn make_two(
+    alloc: Global,
+    context: &Context<'_>,
+    builtin: Builtin,
+    a: &mut Argument<'_>,
+    b: &mut Argument<'_>,
+    target: &mut Bound,
+) -> Result<(), Memory>
+    ensures { OnOk result (IsMade context.now builtin (argument_in a.old ∷ argument_in b.old ∷ []) target.new) }
+{
+    if makes_pair(builtin, a, b) {
+        *target = paired(alloc, a, b)?;
+        return Ok(());
+    }
+    let first = seen(a);
+    let second = seen(b);
+    of_two(alloc, context, builtin, first, second, target)
+}
+
+// Writes what a builtin makes of two arguments over another bound.
+fn of_two<'a>(
+    alloc: Global,
+    context: &Context<'_>,
     builtin: Builtin,
     a: BoundRef<'a>,
     b: BoundRef<'a>,
-    device: u32,
-    ceiling: u32,
-) -> Result<Bound, Memory>
-    ensures { IfOk result (λ r. any_bound_in r
-        ≡ builtin_bound builtin ceiling device (lent_bound_in a.entry ∷ lent_bound_in b.entry ∷ [])) }
+    target: &mut Bound,
+) -> Result<(), Memory>
+    ensures { OnOk result (IsMade context.now builtin (lent_bound_in a.entry ∷ lent_bound_in b.entry ∷ []) target.new) }
 {
-    bound_of_builtin(alloc, builtin, &[a, b], device, ceiling)
+    let ceiling = ceiling_of(context.program);
+    *target = bound_of_builtin(alloc, builtin, &[a, b], context.device, ceiling)?;
+    Ok(())
 }
 
-/// What a builtin makes of three arguments.
-pub fn of_three<'a>(
+/// Writes what a builtin makes of three arguments over another bound.
+pub fn make_three(
     alloc: Global,
+    context: &Context<'_>,
     builtin: Builtin,
-    a: BoundRef<'a>,
-    b: BoundRef<'a>,
-    c: BoundRef<'a>,
-    device: u32,
-    ceiling: u32,
-) -> Result<Bound, Memory>
-    ensures { IfOk result (λ r. any_bound_in r ≡ builtin_bound builtin ceiling device
-        (lent_bound_in a.entry ∷ lent_bound_in b.entry ∷ lent_bound_in c.entry ∷ [])) }
+    a: &Argument<'_>,
+    b: &Argument<'_>,
+    c: &Argument<'_>,
+    target: &mut Bound,
+) -> Result<(), Memory>
+    ensures { OnOk result (IsMade context.now builtin
+        (argument_in a.now ∷ argument_in b.now ∷ argument_in c.now ∷ []) target.new) }
 {
-    bound_of_builtin(alloc, builtin, &[a, b, c], device, ceiling)
+    let ceiling = ceiling_of(context.program);
+    let args = [seen(a), seen(b), seen(c)];
+    *target = bound_of_builtin(alloc, builtin, &args, context.device, ceiling)?;
+    Ok(())
 }
 
-/// Whether a builtin makes a pair of two local values, which takes over what was made for it.
-pub fn makes_pair(builtin: Builtin, a: &Argument<'_>, b: &Argument<'_>) -> bool
+// Whether a builtin makes a pair of two local values, which takes over what was made for it.
+fn makes_pair(builtin: Builtin, a: &Argument<'_>, b: &Argument<'_>) -> bool
     ensures { IsTrue result → (m d : ℕ) → builtin_bound builtin m d (argument_in a.now ∷ argument_in b.now ∷ [])
         ≡ BoundLocal (Both (local_part (argument_in a.now)) (local_part (argument_in b.now))) }
 {
@@ -164,10 +211,10 @@ pub fn makes_pair(builtin: Builtin, a: &Argument<'_>, b: &Argument<'_>) -> bool
     }
 }
 
-/// The pair of two arguments that are local values.
-pub fn paired(alloc: Global, a: Argument<'_>, b: Argument<'_>) -> Result<Bound, Memory>
+// The pair of two arguments that are local values.
+fn paired(alloc: Global, a: &mut Argument<'_>, b: &mut Argument<'_>) -> Result<Bound, Memory>
     ensures { IfOk result (λ r. any_bound_in r
-        ≡ BoundLocal (Both (local_part (argument_in a.entry)) (local_part (argument_in b.entry)))) }
+        ≡ BoundLocal (Both (local_part (argument_in a.old)) (local_part (argument_in b.old)))) }
 {
     let first = Box::new(alloc, taken(alloc, a)?)?;
     let second = Box::new(alloc, taken(alloc, b)?)?;
@@ -178,20 +225,20 @@ pub fn paired(alloc: Global, a: Argument<'_>, b: Argument<'_>) -> Result<Bound, 
 fn is_local(argument: &Argument<'_>) -> bool
     ensures { result ≡ is_bound_of_local (argument_in argument.now) }
 {
-    match argument {
-        Argument::Made(Bound::Local(_)) | Argument::Held(BoundRef::Local(_)) => true,
-        _ => false,
+    match seen(argument) {
+        BoundRef::Local(_) => true,
+        BoundRef::Field(_) | BoundRef::Any => false,
     }
 }
 
-// The bound of an argument that is a local value.
-fn taken(alloc: Global, argument: Argument<'_>) -> Result<LocalBound, Memory>
-    ensures { IfOk result (λ b. local_bound_in b ≡ local_part (argument_in argument.entry)) }
+// The bound of an argument that is a local value, taken out of it.
+fn taken(alloc: Global, argument: &mut Argument<'_>) -> Result<LocalBound, Memory>
+    ensures { IfOk result (λ b. local_bound_in b ≡ local_part (argument_in argument.old)) }
 {
-    match argument {
-        Argument::Made(Bound::Local(bound)) => Ok(bound),
-        Argument::Held(BoundRef::Local(bound)) => copy_bound(alloc, bound),
-        _ => Ok(LocalBound::Unbounded),
+    match &argument.held {
+        Some(BoundRef::Local(bound)) => copy_bound(alloc, bound),
+        Some(_) => Ok(LocalBound::Unbounded),
+        None => Ok(take_local(&mut argument.made)),
     }
 }
 

@@ -7,14 +7,16 @@ ghost use Rattle.value_bounds.specs.BoundBuiltins.{BoundField, BoundLocal};
 ghost use Rattle.fc_values.specs.Values.{local_of};
 ghost use Rattle.value_bounds.specs.References.{local_bound_in, local_bounds_in, any_bound_in, lent_bound_in};
 ghost use Rattle.bound_firing.specs.Firing.{variable_bound, local_part, input_bound as bound_of_input};
-ghost use Rattle.bound_firing.specs.FlatSeats.{SlotsHave, flat_entries, flat_weight};
+ghost use Rattle.bound_firing.specs.FlatSeats.{SlotsHave, flat_entries, flat_maybes, flat_weight};
 ghost use Rattle.bound_firing.specs.References.{flat_seats_in};
 ghost use Rattle.bound_firing.specs.Walks.{started, one_of};
 ghost use Rattle.bound_firing.specs.Contexts.{vars_in, evolution_in, maybe_in, ReadyIn, ReadyFor, FiredTo, ReadyKids};
 ghost use Rattle.bound_firing.specs.Contexts.{KidsFiredTo, ReadyBranch, BranchFiredTo, SeenTo, BuiltOf};
+ghost use Rattle.bound_firing.specs.Contexts.{Heard, Kept};
+ghost use Rattle.bound_firing.specs.Seats.{cut_to};
 
 use crate::arguments::{
-    Argument, held, lend_all, makes_pair, of_one, of_three, of_two, paired, seen,
+    Argument, empty_argument, held, lend_all, make_one, make_three, make_two, of_one, seen,
 };
 use crate::seating::{
     cut_to_seats, may_be, own_or_first, seat_field, seat_weights, seats_in_branch, slot_at,
@@ -23,6 +25,7 @@ use crate::seats::Seats;
 use fc_nodes::{Layout, Node, Op, Unfolded, ceiling_of, least_weight, slot_of};
 use fc_values::{Builtin, Local, Memory};
 use std::alloc::Global;
+use std::mem::replace;
 use value_bounds::{
     Bound, BoundRef, LocalBound, bound_of_builtin, copy_bound, either, exactly, lend,
 };
@@ -57,7 +60,9 @@ pub enum Evolution {
     Share,
 }
 
-/// Evaluates a node: the bound of its value, and those of its slots in the draft.
+/// Evaluates a node: writes the bound of its value over another, and those of its slots into the draft. Programs may be
+/// thousands of nodes deep. So each kind of node has a function of its own, and a bound is made in the place where it
+/// will stand: a level takes little of the stack.
 #[cycle(eval)]
 pub fn eval(
     alloc: Global,
@@ -65,27 +70,40 @@ pub fn eval(
     place: u32,
     sight: &Sight<'_, '_>,
     draft: &mut [LocalBound],
-) -> Result<Bound, Memory>
+    target: &mut Bound,
+) -> Result<(), Memory>
     requires { ReadyIn context.now place sight.now draft.old }
-    ensures { IfOk result (FiredTo context.now place sight.now draft.old draft.new) }
+    ensures { OnOk result (FiredTo context.now place sight.now draft.old draft.new target.new) }
 {
     let node = context.program.node(place);
     match &node.op {
-        Op::Lit(value) => literal(alloc, value),
-        Op::Var(binder) => cut_to_seats(alloc, &in_scope(sight.vars, *binder), sight.seats),
-        Op::Sense(input) => sensed(alloc, context.inputs, *input),
-        Op::Uid => Ok(Bound::Local(uid(context.device, context.program))),
-        Op::NbrLink => links(alloc, sight.seats, least_weight(context.program)),
-        Op::Apply(builtin) => eval_apply(alloc, context, place, node, *builtin, sight, draft),
-        Op::Nbr => eval_nbr(alloc, context, place, node, sight, draft),
-        Op::If => eval_if(alloc, context, place, node, sight, draft),
-        Op::Let => eval_let(alloc, context, place, node, sight, draft),
-        Op::Rep => eval_evolve(alloc, context, place, node, Evolution::Rep, sight, draft),
-        Op::Share => eval_evolve(alloc, context, place, node, Evolution::Share, sight, draft),
+        Op::Lit(value) => literal(alloc, value, target),
+        Op::Var(binder) => variable(alloc, sight, *binder, target),
+        Op::Sense(input) => sensed(alloc, context.inputs, *input, target),
+        Op::Uid => {
+            uid(context, target);
+            Ok(())
+        }
+        Op::NbrLink => links(alloc, sight.seats, least_weight(context.program), target),
+        Op::Apply(builtin) => {
+            eval_apply(alloc, context, place, node, *builtin, sight, draft, target)
+        }
+        Op::Nbr => eval_nbr(alloc, context, place, node, sight, draft, target),
+        Op::If => eval_if(alloc, context, place, node, sight, draft, target),
+        Op::Let => eval_let(alloc, context, place, node, sight, draft, target),
+        Op::Rep => {
+            let rep = Evolution::Rep;
+            eval_evolve(alloc, context, place, node, rep, sight, draft, target)
+        }
+        Op::Share => {
+            let share = Evolution::Share;
+            eval_evolve(alloc, context, place, node, share, sight, draft, target)
+        }
     }
 }
 
 #[cycle(eval)]
+#[inline(always)]
 fn eval_apply(
     alloc: Global,
     context: &Context<'_>,
@@ -94,20 +112,22 @@ fn eval_apply(
     builtin: Builtin,
     sight: &Sight<'_, '_>,
     draft: &mut [LocalBound],
-) -> Result<Bound, Memory>
+    target: &mut Bound,
+) -> Result<(), Memory>
     requires { ReadyFor context.now place sight.now node.now (OfApply builtin) draft.old }
-    ensures { IfOk result (FiredTo context.now place sight.now draft.old draft.new) }
+    ensures { OnOk result (FiredTo context.now place sight.now draft.old draft.new target.new) }
 {
     match node.kids.as_slice() {
-        [a] => eval_one(alloc, context, *a, builtin, sight, draft),
-        [a, b] => eval_two(alloc, context, *a, *b, builtin, sight, draft),
-        [a, b, c] => eval_three(alloc, context, *a, *b, *c, builtin, sight, draft),
-        kids => eval_more(alloc, context, kids, builtin, sight, draft),
+        [a] => eval_one(alloc, context, *a, builtin, sight, draft, target),
+        [a, b] => eval_two(alloc, context, *a, *b, builtin, sight, draft, target),
+        [a, b, c] => eval_three(alloc, context, *a, *b, *c, builtin, sight, draft, target),
+        kids => eval_more(alloc, context, kids, builtin, sight, draft, target),
     }
 }
 
 // What a builtin makes of one argument.
 #[cycle(eval)]
+#[inline(never)]
 fn eval_one(
     alloc: Global,
     context: &Context<'_>,
@@ -115,17 +135,23 @@ fn eval_one(
     builtin: Builtin,
     sight: &Sight<'_, '_>,
     draft: &mut [LocalBound],
-) -> Result<Bound, Memory>
+    target: &mut Bound,
+) -> Result<(), Memory>
     requires { ReadyKids context.now (kid ∷ []) sight.now draft.old }
-    ensures { IfOk result (BuiltOf context.now builtin (kid ∷ []) sight.now draft.old draft.new) }
+    ensures { OnOk result (BuiltOf context.now builtin (kid ∷ []) sight.now draft.old draft.new target.new) }
 {
-    let a = eval_argument(alloc, context, kid, sight, draft)?;
-    let ceiling = ceiling_of(context.program);
-    of_one(alloc, builtin, seen(&a), context.device, ceiling)
+    match held(context, kid, sight) {
+        Some(bound) => of_one(alloc, context, builtin, bound, target),
+        None => {
+            eval(alloc, context, kid, sight, draft, target)?;
+            make_one(alloc, context, builtin, target)
+        }
+    }
 }
 
 // What a builtin makes of two arguments.
 #[cycle(eval)]
+#[inline(never)]
 fn eval_two(
     alloc: Global,
     context: &Context<'_>,
@@ -134,23 +160,21 @@ fn eval_two(
     builtin: Builtin,
     sight: &Sight<'_, '_>,
     draft: &mut [LocalBound],
-) -> Result<Bound, Memory>
+    target: &mut Bound,
+) -> Result<(), Memory>
     requires { ReadyKids context.now (first ∷ second ∷ []) sight.now draft.old }
-    ensures { IfOk result (BuiltOf context.now builtin (first ∷ second ∷ []) sight.now draft.old draft.new) }
+    ensures { OnOk result (BuiltOf context.now builtin (first ∷ second ∷ []) sight.now draft.old draft.new target.new) }
 {
-    let a = eval_argument(alloc, context, first, sight, draft)?;
-    let b = eval_argument(alloc, context, second, sight, draft)?;
-    if makes_pair(builtin, &a, &b) {
-        return paired(alloc, a, b);
-    }
-    let ceiling = ceiling_of(context.program);
-    let first = seen(&a);
-    let second = seen(&b);
-    of_two(alloc, builtin, first, second, context.device, ceiling)
+    let mut a = empty_argument();
+    let mut b = empty_argument();
+    eval_argument(alloc, context, first, sight, draft, &mut a)?;
+    eval_argument(alloc, context, second, sight, draft, &mut b)?;
+    make_two(alloc, context, builtin, &mut a, &mut b, target)
 }
 
 // What a builtin makes of three arguments.
 #[cycle(eval)]
+#[inline(never)]
 fn eval_three(
     alloc: Global,
     context: &Context<'_>,
@@ -160,30 +184,24 @@ fn eval_three(
     builtin: Builtin,
     sight: &Sight<'_, '_>,
     draft: &mut [LocalBound],
-) -> Result<Bound, Memory>
+    target: &mut Bound,
+) -> Result<(), Memory>
     requires { ReadyKids context.now (first ∷ second ∷ third ∷ []) sight.now draft.old }
-    ensures { IfOk result (BuiltOf context.now builtin (first ∷ second ∷ third ∷ []) sight.now draft.old draft.new) }
+    ensures { OnOk result (BuiltOf context.now builtin (first ∷ second ∷ third ∷ []) sight.now draft.old draft.new
+        target.new) }
 {
-    let a = eval_argument(alloc, context, first, sight, draft)?;
-    let b = eval_argument(alloc, context, second, sight, draft)?;
-    let c = eval_argument(alloc, context, third, sight, draft)?;
-    let ceiling = ceiling_of(context.program);
-    let first = seen(&a);
-    let second = seen(&b);
-    let third = seen(&c);
-    of_three(
-        alloc,
-        builtin,
-        first,
-        second,
-        third,
-        context.device,
-        ceiling,
-    )
+    let mut a = empty_argument();
+    let mut b = empty_argument();
+    let mut c = empty_argument();
+    eval_argument(alloc, context, first, sight, draft, &mut a)?;
+    eval_argument(alloc, context, second, sight, draft, &mut b)?;
+    eval_argument(alloc, context, third, sight, draft, &mut c)?;
+    make_three(alloc, context, builtin, &a, &b, &c, target)
 }
 
 // What a builtin makes of any number of arguments.
 #[cycle(eval)]
+#[inline(never)]
 fn eval_more(
     alloc: Global,
     context: &Context<'_>,
@@ -191,16 +209,17 @@ fn eval_more(
     builtin: Builtin,
     sight: &Sight<'_, '_>,
     draft: &mut [LocalBound],
-) -> Result<Bound, Memory>
+    target: &mut Bound,
+) -> Result<(), Memory>
     requires { ReadyKids context.now kids.now sight.now draft.old }
-    ensures { IfOk result (BuiltOf context.now builtin kids.now sight.now draft.old draft.new) }
+    ensures { OnOk result (BuiltOf context.now builtin kids.now sight.now draft.old draft.new target.new) }
 {
     let mut args = Vec::with_capacity(alloc, kids.len())?;
     eval_kids(alloc, context, kids, sight, draft, &mut args)?;
     let lent = lend_all(alloc, &args)?;
     let ceiling = ceiling_of(context.program);
-    let bound = bound_of_builtin(alloc, builtin, &lent, context.device, ceiling)?;
-    Ok(bound)
+    *target = bound_of_builtin(alloc, builtin, &lent, context.device, ceiling)?;
+    Ok(())
 }
 
 // Evaluates nodes one after another, and adds the bounds of their values.
@@ -220,7 +239,8 @@ fn eval_kids(
     let Some((first, rest)) = kids.split_first() else {
         return Ok(());
     };
-    let bound = eval(alloc, context, *first, sight, draft)?;
+    let mut bound = Bound::Any;
+    eval(alloc, context, *first, sight, draft, &mut bound)?;
     args.push(bound)?;
     eval_kids(alloc, context, rest, sight, draft, args)?;
     Ok(())
@@ -235,20 +255,25 @@ fn eval_argument<'a>(
     place: u32,
     sight: &Sight<'a, '_>,
     draft: &mut [LocalBound],
-) -> Result<Argument<'a>, Memory>
+    argument: &mut Argument<'a>,
+) -> Result<(), Memory>
     requires { ReadyIn context.now place sight.now draft.old }
-    ensures { IfOk result (SeenTo context.now place sight.now draft.old draft.new) }
+    ensures { OnOk result (SeenTo context.now place sight.now draft.old draft.new argument.new) }
 {
     match held(context, place, sight) {
-        Some(bound) => Ok(Argument::Held(bound)),
+        Some(bound) => {
+            argument.held = Some(bound);
+            Ok(())
+        }
         None => {
-            let bound = eval(alloc, context, place, sight, draft)?;
-            Ok(Argument::Made(bound))
+            argument.held = None;
+            eval(alloc, context, place, sight, draft, &mut argument.made)
         }
     }
 }
 
 #[cycle(eval)]
+#[inline(never)]
 fn eval_nbr(
     alloc: Global,
     context: &Context<'_>,
@@ -256,19 +281,37 @@ fn eval_nbr(
     node: &Node,
     sight: &Sight<'_, '_>,
     draft: &mut [LocalBound],
-) -> Result<Bound, Memory>
+    target: &mut Bound,
+) -> Result<(), Memory>
     requires { ReadyFor context.now place sight.now node.now OfNbr draft.old }
-    ensures { IfOk result (FiredTo context.now place sight.now draft.old draft.new) }
+    ensures { OnOk result (FiredTo context.now place sight.now draft.old draft.new target.new) }
 {
     let slot = slot_of(context.layout, place);
-    let bound = eval(alloc, context, node.kids[0], sight, draft)?;
-    let own = into_local(bound);
-    let field = seat_field(alloc, sight.seats, slot, copy_bound(alloc, &own)?)?;
+    eval(alloc, context, node.kids[0], sight, draft, target)?;
+    hear(alloc, sight.seats, slot, draft, target)
+}
+
+// The field of what the neighbours have in a slot, with a new bound at the device itself, which the slot keeps.
+fn hear(
+    alloc: Global,
+    seats: &Seats<'_>,
+    slot: u32,
+    draft: &mut [LocalBound],
+    target: &mut Bound,
+) -> Result<(), Memory>
+    requires seats { SlotsHave slot (flat_seats_in seats.now) }
+    requires within { slot < length draft.old }
+    ensures { OnOk result (Heard slot seats.now target.old draft.old draft.new target.new) }
+{
+    let own = take_local(target);
+    let field = seat_field(alloc, seats, slot, copy_bound(alloc, &own)?)?;
     put(draft, slot, own);
-    Ok(Bound::Field(field))
+    *target = Bound::Field(field);
+    Ok(())
 }
 
 #[cycle(eval)]
+#[inline(never)]
 fn eval_evolve(
     alloc: Global,
     context: &Context<'_>,
@@ -277,25 +320,42 @@ fn eval_evolve(
     evolution: Evolution,
     sight: &Sight<'_, '_>,
     draft: &mut [LocalBound],
-) -> Result<Bound, Memory>
+    target: &mut Bound,
+) -> Result<(), Memory>
     requires { ReadyFor context.now place sight.now node.now (OfEvolve (evolution_in evolution)) draft.old }
-    ensures { IfOk result (FiredTo context.now place sight.now draft.old draft.new) }
+    ensures { OnOk result (FiredTo context.now place sight.now draft.old draft.new target.new) }
 {
     let slot = slot_of(context.layout, place);
-    let first = eval(alloc, context, node.kids[0], sight, draft)?;
-    let start = starting_bound(alloc, evolution, sight.seats, slot, into_local(first))?;
+    let mut start = Bound::Any;
+    eval(alloc, context, node.kids[0], sight, draft, &mut start)?;
+    begin(alloc, evolution, sight.seats, slot, &mut start)?;
     let evolving = Scope::Bind(place, lend(&start), sight.vars);
     let body = Sight {
         seats: sight.seats,
         vars: &evolving,
     };
-    let bound = eval(alloc, context, node.kids[1], &body, draft)?;
-    let own = into_local(bound);
+    eval(alloc, context, node.kids[1], &body, draft, target)?;
+    keep(alloc, slot, draft, target)
+}
+
+// A new bound, which the slot keeps.
+fn keep(
+    alloc: Global,
+    slot: u32,
+    draft: &mut [LocalBound],
+    target: &mut Bound,
+) -> Result<(), Memory>
+    requires { slot < length draft.old }
+    ensures { OnOk result (Kept slot target.old draft.old draft.new target.new) }
+{
+    let own = take_local(target);
     put(draft, slot, copy_bound(alloc, &own)?);
-    Ok(Bound::Local(own))
+    *target = Bound::Local(own);
+    Ok(())
 }
 
 #[cycle(eval)]
+#[inline(never)]
 fn eval_if(
     alloc: Global,
     context: &Context<'_>,
@@ -303,21 +363,23 @@ fn eval_if(
     node: &Node,
     sight: &Sight<'_, '_>,
     draft: &mut [LocalBound],
-) -> Result<Bound, Memory>
+    target: &mut Bound,
+) -> Result<(), Memory>
     requires { ReadyFor context.now place sight.now node.now OfIf draft.old }
-    ensures { IfOk result (FiredTo context.now place sight.now draft.old draft.new) }
+    ensures { OnOk result (FiredTo context.now place sight.now draft.old draft.new target.new) }
 {
     let slot = slot_of(context.layout, place);
-    let condition = eval(alloc, context, node.kids[0], sight, draft)?;
-    put(draft, slot, into_local(condition));
+    eval(alloc, context, node.kids[0], sight, draft, target)?;
+    put(draft, slot, take_local(target));
     let first = eval_branch(alloc, context, node.kids[1], slot, true, sight, draft)?;
     let second = eval_branch(alloc, context, node.kids[2], slot, false, sight, draft)?;
-    let bound = either_of(alloc, first, second)?;
-    Ok(bound)
+    *target = either_of(alloc, first, second)?;
+    Ok(())
 }
 
 // Evaluates a branch of the `if` with a slot, unless the bound there says that it isn't taken.
 #[cycle(eval)]
+#[inline(never)]
 fn eval_branch(
     alloc: Global,
     context: &Context<'_>,
@@ -338,11 +400,13 @@ fn eval_branch(
         seats: &seats,
         vars: sight.vars,
     };
-    let bound = eval(alloc, context, place, &taken, draft)?;
+    let mut bound = Bound::Any;
+    eval(alloc, context, place, &taken, draft, &mut bound)?;
     Ok(Some(bound))
 }
 
 #[cycle(eval)]
+#[inline(never)]
 fn eval_let(
     alloc: Global,
     context: &Context<'_>,
@@ -350,17 +414,19 @@ fn eval_let(
     node: &Node,
     sight: &Sight<'_, '_>,
     draft: &mut [LocalBound],
-) -> Result<Bound, Memory>
+    target: &mut Bound,
+) -> Result<(), Memory>
     requires { ReadyFor context.now place sight.now node.now OfLet draft.old }
-    ensures { IfOk result (FiredTo context.now place sight.now draft.old draft.new) }
+    ensures { OnOk result (FiredTo context.now place sight.now draft.old draft.new target.new) }
 {
-    let value = eval_argument(alloc, context, node.kids[0], sight, draft)?;
+    let mut value = empty_argument();
+    eval_argument(alloc, context, node.kids[0], sight, draft, &mut value)?;
     let inner = Scope::Bind(place, seen(&value), sight.vars);
     let body = Sight {
         seats: sight.seats,
         vars: &inner,
     };
-    eval(alloc, context, node.kids[1], &body, draft)
+    eval(alloc, context, node.kids[1], &body, draft, target)
 }
 
 /// The bound of a binder's value: that of the nearest binder in scope with its place.
@@ -377,61 +443,101 @@ pub fn in_scope<'a>(vars: &Scope<'a>, binder: u32) -> BoundRef<'a>
     BoundRef::Any
 }
 
-// The bound of a literal.
-fn literal(alloc: Global, value: &Local) -> Result<Bound, Memory>
-    ensures { IfOk result (λ b. any_bound_in b ≡ BoundLocal (exactly_of (local_of value.now))) }
+// The bound of a variable where it is seen.
+#[inline(never)]
+fn variable(
+    alloc: Global,
+    sight: &Sight<'_, '_>,
+    binder: u32,
+    target: &mut Bound,
+) -> Result<(), Memory>
+    ensures { OnOk result (any_bound_in target.new ≡ cut_to (flat_maybes (flat_seats_in sight.now.seats.now).near)
+        (variable_bound binder (vars_in sight.now.vars.now))) }
 {
-    Ok(Bound::Local(exactly(alloc, value)?))
+    *target = cut_to_seats(alloc, &in_scope(sight.vars, binder), sight.seats)?;
+    Ok(())
+}
+
+// The bound of a literal.
+#[inline(never)]
+fn literal(alloc: Global, value: &Local, target: &mut Bound) -> Result<(), Memory>
+    ensures { OnOk result (any_bound_in target.new ≡ BoundLocal (exactly_of (local_of value.now))) }
+{
+    *target = Bound::Local(exactly(alloc, value)?);
+    Ok(())
 }
 
 // The bound of an input.
-fn sensed(alloc: Global, inputs: &[LocalBound], index: u32) -> Result<Bound, Memory>
-    ensures { IfOk result (λ b. any_bound_in b
+#[inline(never)]
+fn sensed(
+    alloc: Global,
+    inputs: &[LocalBound],
+    index: u32,
+    target: &mut Bound,
+) -> Result<(), Memory>
+    ensures { OnOk result (any_bound_in target.new
         ≡ BoundLocal (bound_of_input (slice_get (local_bounds_in inputs.now) index))) }
 {
     match inputs.get(index as usize) {
-        Some(bound) => Ok(Bound::Local(copy_bound(alloc, bound)?)),
-        None => Ok(Bound::Local(LocalBound::Unbounded)),
+        Some(bound) => {
+            *target = Bound::Local(copy_bound(alloc, bound)?);
+            Ok(())
+        }
+        None => {
+            *target = Bound::Local(LocalBound::Unbounded);
+            Ok(())
+        }
     }
 }
 
 // The bound of the field of the links' weights.
-fn links(alloc: Global, seats: &Seats<'_>, least: u32) -> Result<Bound, Memory>
-    ensures { IfOk result (λ b. any_bound_in b ≡ BoundField (Between least least)
+#[inline(never)]
+fn links(alloc: Global, seats: &Seats<'_>, least: u32, target: &mut Bound) -> Result<(), Memory>
+    ensures { OnOk result (any_bound_in target.new ≡ BoundField (Between least least)
         (flat_entries flat_weight (flat_seats_in seats.now).near)) }
 {
-    Ok(Bound::Field(seat_weights(alloc, seats, least)?))
+    *target = Bound::Field(seat_weights(alloc, seats, least)?);
+    Ok(())
 }
 
-// The bound of a device's number, capped at the ceiling.
-fn uid(device: u32, program: &Unfolded) -> LocalBound
-    ensures { local_bound_in result ≡ Between (min device program.now.declared.ceiling)
-        (min device program.now.declared.ceiling) }
+// The bound of the device's number, capped at the ceiling.
+#[inline(never)]
+fn uid(context: &Context<'_>, target: &mut Bound)
+    ensures { any_bound_in target.new ≡ BoundLocal (Between
+        (min context.now.device context.now.program.now.declared.ceiling)
+        (min context.now.device context.now.program.now.declared.ceiling)) }
 {
-    let number = device.min(ceiling_of(program));
-    LocalBound::Between(number, number)
+    let number = context.device.min(ceiling_of(context.program));
+    *target = Bound::Local(LocalBound::Between(number, number));
 }
 
-// What the variable of an evolving value starts from.
-fn starting_bound(
+// What the variable of an evolving value starts from, in place of the bound of its first value.
+fn begin(
     alloc: Global,
     evolution: Evolution,
     seats: &Seats<'_>,
     slot: u32,
-    first: LocalBound,
-) -> Result<Bound, Memory>
+    start: &mut Bound,
+) -> Result<(), Memory>
     requires { SlotsHave slot (flat_seats_in seats.now) }
-    ensures { IfOk result (λ b. any_bound_in b ≡ started (evolution_in evolution) slot (flat_seats_in seats.now)
-        (local_bound_in first)) }
+    ensures { OnOk result (any_bound_in start.new ≡ started (evolution_in evolution) slot (flat_seats_in seats.now)
+        (local_part (any_bound_in start.old))) }
 {
-    let own = own_or_first(alloc, seats, slot, first)?;
+    let own = own_or_first(alloc, seats, slot, take_local(start))?;
     match evolution {
-        Evolution::Rep => Ok(Bound::Local(own)),
-        Evolution::Share => Ok(Bound::Field(seat_field(alloc, seats, slot, own)?)),
+        Evolution::Rep => {
+            *start = Bound::Local(own);
+            Ok(())
+        }
+        Evolution::Share => {
+            *start = Bound::Field(seat_field(alloc, seats, slot, own)?);
+            Ok(())
+        }
     }
 }
 
 // The bound of the value of an `if`, out of those of the branches that may be taken.
+#[inline(never)]
 fn either_of(alloc: Global, first: Option<Bound>, second: Option<Bound>) -> Result<Bound, Memory>
     ensures { IfOk result (λ b. any_bound_in b ≡ one_of (maybe_in first) (maybe_in second)) }
 {
@@ -443,12 +549,12 @@ fn either_of(alloc: Global, first: Option<Bound>, second: Option<Bound>) -> Resu
     }
 }
 
-/// The bound of a local value out of a bound; a field has none.
-pub fn into_local(bound: Bound) -> LocalBound
-    ensures { local_bound_in result ≡ local_part (any_bound_in bound) }
+/// The bound of a local value, taken out of a bound; a field has none.
+pub fn take_local(bound: &mut Bound) -> LocalBound
+    ensures { local_bound_in result ≡ local_part (any_bound_in bound.old) }
 {
     match bound {
-        Bound::Local(local) => local,
+        Bound::Local(local) => replace(local, LocalBound::Unbounded),
         Bound::Field(_) | Bound::Any => LocalBound::Unbounded,
     }
 }

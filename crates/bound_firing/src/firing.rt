@@ -12,12 +12,12 @@ ghost use Rattle.bound_firing.specs.FlatSeats.{seats_over};
 ghost use Rattle.bound_firing.specs.References.{flat_seats_in};
 ghost use Rattle.bound_firing.specs.ExportReferences.{export_bound_in, situation_for, SlotsAreLong};
 
-use crate::evaluation::{Context, Scope, Sight, eval, into_local};
+use crate::evaluation::{Context, Scope, Sight, eval, take_local};
 use crate::seats::Seats;
 use fc_nodes::{Node, Op, Unfolded};
 use fc_values::{Memory, inner};
 use std::alloc::Global;
-use value_bounds::{LocalBound, anything};
+use value_bounds::{Bound, LocalBound, anything};
 
 /// A bound of an export: of the value of `main`, of what each kept place keeps in preorder, and whether the export is
 /// there for sure.
@@ -74,8 +74,9 @@ pub fn fire_bounds(
         seats,
         vars: &Scope::Empty,
     };
-    let bound = eval(alloc, &context, 0, &sight, slots)?;
-    target.value = into_local(bound);
+    let mut bound = Bound::Any;
+    eval(alloc, &context, 0, &sight, slots, &mut bound)?;
+    target.value = take_local(&mut bound);
     target.sure = sure;
     Ok(())
 }

@@ -22,6 +22,6 @@ returns-clause-bound c =
     let e = c.eval.auto.draft in
     let back = with_items_is c.args.target.now.slots c.eval.new.draft
     (omega (arith, l, e, ap length c.as_mut_slice-slots.ensures.value, c.args.target.now.slots.ok.0)) in
-    rw (c.into_local.ensures, back)
+    rw (c.take_local.ensures, back)
     (root_done c.args.program.now c.layout.ensures.program c.layout.result.now c.layout.ensures.layout
-    (flat_seats_in c.args.seats.now) (local_bounds_in c.clear.new.slots) c.args.sure _ _ _ c.in_ok-bound.ensures)
+    (flat_seats_in c.args.seats.now) (local_bounds_in c.clear.new.slots) c.args.sure _ _ _ c.in_ok-eval.ensures)
