@@ -120,10 +120,10 @@ for_work t work left a none same h = record {
 }
 
 -- ---- the statuses of answers
-module _ (statuses : AnswerStatuses) (asked named : Option Command) (left : Option (List ℕ)) (r : Result Answer Failure)
-    (is : asked ≡ named) (h : IfOk r (λ a. OfSource (λ input. Answers named input (value_of a)) left)) where
-  pub answer_usage : IfOk r (λ a. a.status ≡ 2 → asked ≡ None)
-  answer_usage = IfOk-weaker r _ _ (λ a o two. is ∙ (statuses named o.input (value_of a) o.holds).usage two) h
+module _ (statuses : AnswerStatuses) (asked : Option Command) (left : Option (List ℕ)) (r : Result Answer Failure)
+    (h : IfOk r (λ a. OfSource (λ input. Answers asked input (value_of a)) left)) where
+  pub answer_usage : (o : Option Command) → o ≡ asked → IfOk r (λ a. a.status ≡ 2 → o ≡ None)
+  answer_usage o e = IfOk-weaker r _ _ (λ a i two. e ∙ (statuses asked i.input (value_of a) i.holds).usage two) h
 
   pub answer_few : IfOk r (λ a. a.status ≤ 4)
-  answer_few = IfOk-weaker r _ _ (λ a o. (statuses named o.input (value_of a) o.holds).few) h
+  answer_few = IfOk-weaker r _ _ (λ a i. (statuses asked i.input (value_of a) i.holds).few) h

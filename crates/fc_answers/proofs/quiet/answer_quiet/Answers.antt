@@ -1,4 +1,4 @@
-use Rattle.std.proofs.Common.{arith, rules, Some}
+use Rattle.std.proofs.Common.{rules, Some}
 use Rattle.std.proofs.lemmas.Result.{IfOk-weaker}
 use Rattle.command_words.specs.declared.commands.Command.TheVariants as command
 use Rattle.command_frame.specs.Code.{value_of}
@@ -10,18 +10,17 @@ use Rattle.fc_answers.proofs.quiet.answer_quiet.Goals.{in-Mail}
 
 pub returns-then-input-gt-MOST_BYTES : goal.returns-then-input-gt-MOST_BYTES
 returns-then-input-gt-MOST_BYTES c =
-    let far = c.if-input-gt-MOST_BYTES.true in
     let answer = value_of c.in_ok-refuse.field-0 in
-    let asked = Some (command.Quiet c.args.command) in
+    let keep = c.answers_keep.ensures (Some (command.Quiet c.args.command)) c.args.input.now answer in
     let answers = long_answered (λ ss j. AnswersSections c.args.command ss j) c.args.input.now answer
-    (omega (arith, far)) c.in_ok-refuse.ensures in
-    record { answers = answers; kept = c.answers_keep.ensures asked c.args.input.now answer answers }
+    c.if-input-gt-MOST_BYTES.true c.in_ok-refuse.ensures in
+    record { answers = answers; kept = keep answers }
 
 pub returns : goal.returns
 returns c =
-    let near = c.if-input-gt-MOST_BYTES.false in
-    let answers = made_answered (λ ss j. AnswersSections c.args.command ss j) c.args.input.now (omega (arith, near))
-    c.match-command.made c.or_stopped.result
+    let keep = c.answers_keep.ensures (Some (command.Quiet c.args.command)) c.args.input.now in
+    let answers = made_answered (λ ss j. AnswersSections c.args.command ss j) c.args.input.now
+    c.if-input-gt-MOST_BYTES.false c.match-command.made c.or_stopped.result
     (elim c.match-command.branch [
       | in-Check w ↦ record { makes = search rules; refused = search rules }
       | in-Changes w ↦ record { makes = search rules; refused = search rules }
@@ -32,8 +31,4 @@ returns c =
       | in-Mail w ↦ record { makes = search rules; refused = search rules }
     ])
     c.or_stopped.ensures.made c.or_stopped.ensures.stopped in
-    record {
-      answers = answers;
-      kept = IfOk-weaker c.or_stopped.result _ _
-          (λ a h. c.answers_keep.ensures (Some (command.Quiet c.args.command)) c.args.input.now (value_of a) h) answers;
-    }
+    record { answers = answers; kept = IfOk-weaker c.or_stopped.result _ _ (λ a h. keep (value_of a) h) answers }
