@@ -1,4 +1,4 @@
-use Rattle.std.proofs.Common.{ap, sym, ◌∙◌, Some}
+use Rattle.std.proofs.Common.{rules, sym, Some}
 use Rattle.command_words.specs.declared.commands.Command.TheVariants as command
 use Rattle.command_frame.specs.Code.{value_of}
 use Rattle.fc_program.proofs.Answering.{answer_few, answer_usage, for_usage}
@@ -12,7 +12,7 @@ returns-in_ok-refuse-in-None-clause-answers g c =
 pub returns-in-Some-Quiet-clause-usage : goal.returns-in-Some-Quiet-clause-usage
 returns-in-Some-Quiet-clause-usage g c =
     answer_usage c.answer_statuses.ensures (Some (command.Quiet c.in-Some-Quiet.command)) _ c.quiet_answer.result
-    c.quiet_answer.ensures.answers _ (c.in-Some-Quiet.is ∙ ap Some c.in-Some-Quiet.field-0-is)
+    c.quiet_answer.ensures.answers c.args.asked (search rules)
 
 pub returns-in-Some-Quiet-clause-status : goal.returns-in-Some-Quiet-clause-status
 returns-in-Some-Quiet-clause-status g c =
@@ -22,7 +22,7 @@ returns-in-Some-Quiet-clause-status g c =
 pub returns-in-Some-Threaded-clause-usage : goal.returns-in-Some-Threaded-clause-usage
 returns-in-Some-Threaded-clause-usage g c =
     answer_usage c.answer_statuses.ensures (Some (command.Threaded c.in-Some-Threaded.command)) _ c.threaded_answer.result
-    c.threaded_answer.ensures.answers _ (c.in-Some-Threaded.is ∙ ap Some c.in-Some-Threaded.field-0-is)
+    c.threaded_answer.ensures.answers c.args.asked (search rules)
 
 pub returns-in-Some-Threaded-clause-status : goal.returns-in-Some-Threaded-clause-status
 returns-in-Some-Threaded-clause-status g c =
