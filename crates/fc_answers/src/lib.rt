@@ -4,6 +4,7 @@
 mod asked;
 mod laws;
 mod quiet;
+mod stops;
 mod working;
 
 pub use asked::past_limit;

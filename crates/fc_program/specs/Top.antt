@@ -1,10 +1,9 @@
 -- What `fc` promises of its source and its sink, its status, its book and its parts.
-use Rattle.std.specs.Prelude.{ℕ, ◌≡◌, ◌≢◌, ◌<◌, ◌≤◌, ◌⊎◌, true, nat_lt, if◌then◌else◌}
+use Rattle.std.specs.Prelude.{ℕ, ◌≡◌, ◌≢◌, ◌<◌, ◌≤◌, ◌⊎◌, true}
 use Rattle.std.specs.Prelude.{List, [], length, take, IfSome, IsNone}
-use Rattle.std.specs.Prelude.{Option, Some, None, option_map}
+use Rattle.std.specs.Prelude.{Option, None, option_map}
 use Rattle.std.specs.Io.KnownBytes.{Appends, IsAtEnd, Keeps}
 use Rattle.command_words.specs.declared.commands.Command.{Command}
-use Rattle.fc_values.specs.declared.limits.TheConstants.{MOST_BYTES}
 use Rattle.fc_io.specs.Causes.{Rose}
 use Rattle.fc_program.specs.declared.ending.CallEnd.{CallEnd}
 use Rattle.fc_answers.specs.Asked.{reads_source}
@@ -25,10 +24,6 @@ pub record OfSource (Holds : List ℕ → Type 0) (left : Option (List ℕ)) : T
   pub input : List ℕ
   pub there : IfSome left (λ bytes. input ≡ bytes)
   pub holds : Holds input
-
--- an input, if it is no longer than the limit
-abbrev pub within_bytes : List ℕ → Option (List ℕ)
-within_bytes input = if nat_lt MOST_BYTES (length input) then None else Some input
 
 -- ---- how a call ends
 

@@ -1,16 +1,17 @@
 //! What is made of what the words ask for.
-ghost use Rattle.std.specs.Prelude.{◌≡◌, ◌≢◌, ◌≤◌, IfOk, IfSome, IsErrOf, None, Some, option_map, true, false};
+ghost use Rattle.std.specs.Prelude.{◌≡◌, ◌≢◌, ◌<◌, ◌≤◌, IfOk, IfSome, IsErrOf, None, Some, length, true, false};
 ghost use Rattle.std.specs.Io.KnownBytes.{IsAtEnd};
-ghost use Rattle.command_words.specs.Commands.{IsThreaded, IsWork, work_limit};
+ghost use Rattle.command_words.specs.Commands.{IsThreaded};
 ghost use Rattle.fc_io.specs.Causes.{Rose};
 ghost use Rattle.fc_program.specs.declared.judging.Failure.TheVariants as failure;
-ghost use Rattle.fc_answers.specs.Answers.{Answers, Works};
-ghost use Rattle.fc_answers.specs.Asked.{MayAsk, reads_source, takes_input};
-ghost use Rattle.fc_program.specs.Top.{IsAnswer, OfSource, within_bytes};
+ghost use Rattle.fc_answers.specs.Answers.{Answers};
+ghost use Rattle.fc_answers.specs.Asked.{MayAsk, reads_source};
+ghost use Rattle.fc_program.specs.Top.{IsAnswer, OfSource};
+ghost use Rattle.fc_values.specs.declared.limits.TheConstants.{MOST_BYTES};
 ghost use Rattle.command_frame.specs.Code.{value_of};
 
 use command_frame::{Answer, Refusal, refuse};
-use command_words::{Command, Quiet, RunOptions, Threaded, Work};
+use command_words::{Command, Quiet, Threaded, Work};
 use export_table::Gate;
 use fc_answers::{answer_gen, answer_quiet, answer_run, answer_statuses, answers_keep, past_limit};
 use fc_io::{ReadAll, Source, read_all};
@@ -37,8 +38,8 @@ impl From<Memory> for Failure {
 
 // The input that the source has left, or nothing where it has more bytes than the limit.
 fn input<S: Source>(alloc: Global, src: &mut S) -> Result<Option<Vec<u8>>, Failure>
-    ensures input { IfOk result (λ o.
-        OfSource (λ input. option_map (λ bytes. bytes.items) o ≡ within_bytes input) (S.left src.old)) }
+    ensures all { IfOk result (λ o. IfSome o (λ bytes. IfSome (S.left src.old) (λ left. bytes.items ≡ left))) }
+    ensures long { IfOk result (λ o. o ≡ None → OfSource (λ input. MOST_BYTES < length input) (S.left src.old)) }
     ensures end { IfOk result (λ o. IfSome o (λ bytes. IsAtEnd (S.left src.new))) }
     ensures fault { IsErrOf result Failure.Read → Rose (S.faults src.old) (S.faults src.new) }
     ensures quiet { (IsErrOf result Failure.Read → ⊥) → S.faults src.new ≡ S.faults src.old }
@@ -65,47 +66,8 @@ fn quiet_answer<S: Source>(alloc: Global, command: Quiet, src: &mut S) -> Result
     }
 }
 
-// The answer of `run` to what the source has left. It waits where it runs rounds alone.
-fn run_answer<S: Source, W: Threads + Wait + Sync, G: Gate + Sync>(
-    alloc: Global,
-    options: RunOptions,
-    src: &mut S,
-    pool: &Pool<W, G>,
-) -> Result<Answer, Failure>
-    ensures works { IfOk result (λ a.
-        OfSource (λ input. Works (Work.Run options) input (value_of a)) (S.left src.old)) }
-    ensures end { IfOk result (λ a. a.status ≢ 4 → IsAtEnd (S.left src.new)) }
-    ensures fault { IsErrOf result Failure.Read → Rose (S.faults src.old) (S.faults src.new) }
-    ensures quiet { (IsErrOf result Failure.Read → ⊥) → S.faults src.new ≡ S.faults src.old }
-{
-    match input(alloc, src)? {
-        Some(bytes) => Ok(answer_run(alloc, options, &bytes, pool)?),
-        None => Ok(refuse(alloc, Refusal::Bytes)?),
-    }
-}
-
-// The answer of work within the limits of its numbers.
-fn work_answer<S: Source, W: Threads + Wait + Sync, G: Gate + Sync>(
-    alloc: Global,
-    work: Work,
-    src: &mut S,
-    pool: &Pool<W, G>,
-) -> Result<Answer, Failure>
-    requires may { IsWork work }
-    requires within { work_limit work ≡ None }
-    ensures works { IfOk result (λ a. OfSource (λ input. Works work input (value_of a)) (S.left src.old)) }
-    ensures end { takes_input work ≡ true → IfOk result (λ a. a.status ≢ 4 → IsAtEnd (S.left src.new)) }
-    ensures untouched { takes_input work ≡ false → src.new ≡ src.old }
-    ensures fault { IsErrOf result Failure.Read → Rose (S.faults src.old) (S.faults src.new) }
-    ensures quiet { (IsErrOf result Failure.Read → ⊥) → S.faults src.new ≡ S.faults src.old }
-{
-    match work {
-        Work::Run(options) => run_answer(alloc, options, src, pool),
-        Work::Gen(options) => Ok(answer_gen(alloc, options, pool)?),
-    }
-}
-
-// The answer to a threaded command. A number past its limit is refused before anything is read.
+// The answer to a threaded command. A number past its limit is refused before anything is read. It waits where it runs
+// rounds alone.
 fn threaded_answer<W: Threads + Wait + Sync, S: Source, G: Gate + Sync>(
     rt: &W,
     alloc: Global,
@@ -126,30 +88,12 @@ fn threaded_answer<W: Threads + Wait + Sync, S: Source, G: Gate + Sync>(
         return Ok(refuse(alloc, refusal)?);
     }
     let pool = Pool::new(rt, gate, command.workers);
-    work_answer(alloc, command.work, src, &pool)
-}
-
-// The answer to what the words ask for.
-fn made<W: Threads + Wait + Sync, S: Source, G: Gate + Sync>(
-    rt: &W,
-    alloc: Global,
-    asked: Option<Command>,
-    src: &mut S,
-    gate: &G,
-) -> Result<Answer, Failure>
-    requires { MayAsk asked }
-    ensures answers { IfOk result (λ a. OfSource (λ input. Answers asked input (value_of a)) (S.left src.old)) }
-    ensures outside { IfOk result (λ a. asked ≡ None → a.status ≡ 2) }
-    ensures end { reads_source asked ≡ true → IfOk result (λ a. a.status ≢ 4 → IsAtEnd (S.left src.new)) }
-    ensures untouched { reads_source asked ≡ false → src.new ≡ src.old }
-    ensures inside { IsErrOf result Failure.Read → asked ≢ None }
-    ensures fault { IsErrOf result Failure.Read → Rose (S.faults src.old) (S.faults src.new) }
-    ensures quiet { (IsErrOf result Failure.Read → ⊥) → S.faults src.new ≡ S.faults src.old }
-{
-    match asked {
-        None => Ok(refuse(alloc, Refusal::Usage)?),
-        Some(Command::Quiet(command)) => quiet_answer(alloc, command, src),
-        Some(Command::Threaded(command)) => threaded_answer(rt, alloc, command, src, gate),
+    match command.work {
+        Work::Run(options) => match input(alloc, src)? {
+            Some(bytes) => Ok(answer_run(alloc, options, &bytes, &pool)?),
+            None => Ok(refuse(alloc, Refusal::Bytes)?),
+        },
+        Work::Gen(options) => Ok(answer_gen(alloc, options, &pool)?),
     }
 }
 
@@ -177,5 +121,9 @@ pub fn answered<W: Threads + Wait + Sync, S: Source, G: Gate + Sync>(
 {
     answers_keep();
     answer_statuses();
-    made(rt, alloc, asked, src, gate)
+    match asked {
+        None => Ok(refuse(alloc, Refusal::Usage)?),
+        Some(Command::Quiet(command)) => quiet_answer(alloc, command, src),
+        Some(Command::Threaded(command)) => threaded_answer(rt, alloc, command, src, gate),
+    }
 }

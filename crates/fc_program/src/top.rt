@@ -6,10 +6,11 @@ ghost use Rattle.fc_answers.specs.Answers.{Answers};
 ghost use Rattle.fc_program.specs.Top.{CallEnds, IsExact, sink_at, source_at};
 ghost use Rattle.command_frame.specs.Answers.{AnswerValue};
 
-use crate::ending::{CallEnd, ended, without_book};
+use crate::ending::{CallEnd, without_book};
+use crate::judging::{Failure, answered};
 use command_words::{command, words_ask_for_commands};
 use export_table::Gate;
-use fc_io::{CalmSink, CalmSource, Sink, Source};
+use fc_io::{CalmSink, CalmSource, Sink, Source, write_all};
 use std::alloc::Global;
 use std::sync::Wait;
 use std::thread::Threads;
@@ -34,9 +35,24 @@ pub fn fc<W: Threads + Wait + Sync, S: Source, K: Sink, G: Gate + Sync>(
     ensures untouched { reads_source (command_of (map string_bytes words.now)) ≡ false → src.new ≡ src.old }
 {
     words_ask_for_commands();
-    match command(alloc, words) {
-        Ok(asked) => ended(rt, alloc, asked, src, out, gate),
-        Err(_) => without_book(alloc, 7),
+    let Ok(asked) = command(alloc, words) else {
+        return without_book(alloc, 7);
+    };
+    match answered(rt, alloc, asked, src, gate) {
+        Ok(answer) => match write_all(out, &answer.text) {
+            Ok(()) => CallEnd {
+                status: answer.status,
+                book: answer.book,
+                parts: answer.parts,
+            },
+            Err(_) => CallEnd {
+                status: 6,
+                book: answer.book,
+                parts: answer.parts,
+            },
+        },
+        Err(Failure::Read) => without_book(alloc, 5),
+        Err(Failure::Memory) => without_book(alloc, 7),
     }
 }
 
@@ -61,11 +77,7 @@ pub fn calm<W: Threads + Wait + Sync, G: Gate + Sync>(
     ensures memory { result.status ≡ 7 → out.new.taken ≡ [] }
 {
     let mut source = CalmSource::new(input);
-    words_ask_for_commands();
-    let Ok(asked) = command(alloc, words) else {
-        return without_book(alloc, 7);
-    };
-    let outcome = ended(rt, alloc, asked, &mut source, out, gate);
+    let outcome = fc(rt, alloc, words, &mut source, out, gate);
     // Its clause `calm`: with room left no write has failed.
     let _taken = out.taken();
     outcome
