@@ -15,7 +15,7 @@ from helping import TOP, needs_fc
 from fieldc import program as fc
 
 # of each thread, in KiB, as `ulimit -s` has it
-STACK = 2048
+STACK = 1024
 PAGES = ("README.md", "docs/headline.md", "docs/commands.md")
 NETWORK = '%%\n{"devices":[{"id":0,"inputs":{}},{"id":1,"inputs":{}}],"links":[[0,1,1]]}\n'
 LOG = "%%\nB0\nE0\nB1\nE1\n"
