@@ -3,17 +3,20 @@
 ghost use Rattle.std.specs.Prelude.{◌≡◌, ◌≤◌, IsSome, OnOk, Some, length, map, min, slice_get, slice_index};
 ghost use Rattle.fc_values.specs.Values.{local_of};
 ghost use Rattle.fc_nodes.specs.Terms.{OfApply, OfNbr, OfEvolve, ByRep, ByShare, OfIf, OfLet};
+ghost use Rattle.alignment.specs.References.{flat_of};
+ghost use Rattle.alignment.specs.Slots.{NearHave, OwnHas, flat_branch};
 ghost use Rattle.device_eval.specs.Evaluation.{pick};
 ghost use Rattle.device_eval.specs.Contexts.{ReadyIn, ReadyFor, Evaluated, EvaluatedBody, EvaluatedKids, ReadyKids};
 
 use crate::builtins::{apply_builtin, fill_rows, rows_of};
 use crate::drafts::Draft;
-use alignment::{own_or, same_branch};
+use alignment::{Env, own_or, same_branch};
 use fc_nodes::{Layout, Node, Op, Unfolded, ceiling_of, least_weight, slot_of};
 use fc_values::{Builtin, Local, Memory, inner};
 use scope_columns::{
     Binder, Scope, Sight, is_field, own_row, push_heard, push_links, push_variable,
 };
+use smallvec::SmallVec;
 use std::alloc::Global;
 use value_columns::{close_gap, push_value, value_at};
 
@@ -329,19 +332,37 @@ fn eval_if(
     eval(alloc, words, context, node.kids[0], sight, draft)?;
     let truth = words[at] != 0;
     words.truncate(at);
-    // borrowed where it is made: it is the largest thing that a level has on the stack
-    let made = same_branch(alloc, sight.env, slot, truth);
-    let Ok(branch) = &made else {
-        return Err(Memory);
+    let mut branch = Env {
+        own: None,
+        near: SmallVec::new(alloc),
     };
+    take_branch(alloc, sight.env, slot, truth, &mut branch)?;
     let kid = branch_of(&node.kids, truth);
     let taken = Sight {
-        env: branch,
-        own: own_row(branch, context.device),
+        env: &branch,
+        own: own_row(&branch, context.device),
         vars: sight.vars,
     };
     eval(alloc, words, context, kid, &taken, draft)?;
     draft.put(slot, Local::Bool(truth));
+    Ok(())
+}
+
+// Puts the exports that took the same branch into a place of the caller. They are the largest thing that a level has on
+// the stack: what is on the way to that place lies in a frame of its own.
+#[inline(never)]
+fn take_branch<'a>(
+    alloc: Global,
+    env: &Env<'a>,
+    slot: u32,
+    truth: bool,
+    branch: &mut Env<'a>,
+) -> Result<(), Memory>
+    requires own { OwnHas slot (flat_of env.now).own }
+    requires near { NearHave slot (flat_of env.now).near }
+    ensures { OnOk result (flat_of branch.new ≡ flat_branch slot truth (flat_of env.now)) }
+{
+    *branch = same_branch(alloc, env, slot, truth)?;
     Ok(())
 }
 

@@ -1,6 +1,6 @@
 -- Calls and expressions in a row, as their nodes are written.
 use Rattle.std.proofs.Common.{◌≡◌, refl, sym, ap, subst, ◌∙◌, ℕ, zero, suc, ◌+◌, ◌-◌, ◌<◌, ◌≤◌, arith, List, [], ◌∷◌, ◌++◌, length, map, take, drop, get_or, Option, append_assoc}
-use Rattle.std.specs.Prelude.{slice_set, Result, Ok, Err, IfOk}
+use Rattle.std.specs.Prelude.{slice_set, Result, Ok, Err, OnOk}
 use Rattle.std.proofs.lemmas.List.{length-append, take_all}
 use Rattle.fc_values.specs.declared.types.Ty.{Ty}
 use Rattle.fc_values.specs.Types.{ValueType, type_of}
@@ -73,17 +73,6 @@ module _ (B : Earlier) (n : ℕ) (S : NamesInScope) (f : List ℕ) where
       let g' = two_kids N0 N1 v OfLet place p after begun (λ r. unfolded_in B n S r e) G N2 N3 N4 (type_of ct) kids second l' h.nodes i' q k g in
       let c' = c ∙ j in
       record { nodes = rw c' at g'; type = j }
-
-  pub call_ended : {E : Type 0} → (e : SourceTerm) (es : SourceTerms) (N0 N1 N2 N3 N4 : List Node) (v : View) (place : ℕ) (given more : List (ℕ × ValueType)) (start end : Ty) (second : ℕ) (r : Result Ty E) →
-      place ≡ length N0 → length N1 ≡ length N0 + 1 → map view_of N1 ≡ map view_of N0 ++ v ∷ [] →
-      length N2 ≡ length N1 + count (counted B n) e → IsWritten N1 N2 start (unfolded_in B n S (length N1) e) →
-      more ≡ given ++ (place, type_of start) ∷ [] → IsWritten N2 N3 end (call_in B n S f more (length N2) es) → second ≡ length N2 →
-      IfOk r (λ t. type_of t ≡ type_of end) → IfOk r (λ t. map view_of N4 ≡ slice_set (map view_of N3) place (Has OfLet (type_of t) ((place + 1) ∷ second ∷ []))) →
-      IfOk r (λ t. IsWritten N0 N4 t (call_in B n S f given (length N0) (MoreTerms e es)))
-  call_ended e es N0 N1 N2 N3 N4 v place given more start end second (Ok t) p after begun l h m i q c g =
-      let w = call_written e es N0 N1 N2 N3 N4 v place given more start end t second ((place + 1) ∷ second ∷ []) p after begun l h m i q c refl g in
-      record { nodes = w.nodes; type = c ∙ w.type }
-  call_ended e es N0 N1 N2 N3 N4 v place given more start end second (Err m') p after begun l h m i q c g = tt
 
 -- the body
 module _ (B : Earlier) (n : ℕ) (x : List ℕ) where
@@ -168,10 +157,10 @@ last_written B n f j body N0 N1 t h w =
     same_written B n f h.seen h.last N0 N1 t h.same (found_body B h.seen h.last j h.function [] N0 N1 t h.first h.earlier w')
 
 -- what is written is the same, if memory suffices
-pub ended_as : {E : Type 0} → (r : Result Ty E) (N0 N1 : List Node) (u v : Term) → ((t : Ty) → IsWritten N0 N1 t u → IsWritten N0 N1 t v) → IfOk r (λ t. IsWritten N0 N1 t u) → IfOk r (λ t. IsWritten N0 N1 t v)
-ended_as (Ok t) N0 N1 u v f h = f t h
-ended_as (Err m) N0 N1 u v f h = tt
+pub ended_as : {A E : Type 0} → (r : Result A E) (N0 N1 : List Node) (t : Ty) (u v : Term) → (IsWritten N0 N1 t u → IsWritten N0 N1 t v) → OnOk r (IsWritten N0 N1 t u) → OnOk r (IsWritten N0 N1 t v)
+ended_as (Ok x) N0 N1 t u v f h = f h
+ended_as (Err m) N0 N1 t u v f h = tt
 
-pub longer_as : {E : Type 0} → (r : Result Ty E) (k m n : ℕ) → m ≡ n → IfOk r (λ _. k ≡ m) → IfOk r (λ _. k ≡ n)
+pub longer_as : {A E : Type 0} → (r : Result A E) (k m n : ℕ) → m ≡ n → OnOk r (k ≡ m) → OnOk r (k ≡ n)
 longer_as (Ok t) k m n e h = h ∙ e
 longer_as (Err x) k m n e h = tt

@@ -1,6 +1,6 @@
 -- Nodes behind others, as they are written form by form.
 use Rattle.std.proofs.Common.{◌≡◌, refl, sym, ap, ◌∙◌, ℕ, suc, ◌+◌, arith, List, [], ◌∷◌, ◌++◌, length, map, take, append_assoc, append-nil}
-use Rattle.std.specs.Prelude.{slice_set, Result, Ok, Err, IfOk}
+use Rattle.std.specs.Prelude.{slice_set}
 use Rattle.std.proofs.lemmas.List.{length-map}
 use Rattle.fc_values.specs.declared.builtins.Builtin.{Builtin}
 use Rattle.fc_values.specs.declared.types.Ty.{Ty}
@@ -190,26 +190,3 @@ module _ (B : Earlier) (n : ℕ) (S : NamesInScope) (N0 N1 : List Node) (v : Vie
       let row = w.nodes ∙ ap (λ (l : List View). map view_of N1 ++ l) (sym (append-nil (listed (length N1) (unfolded_in B n S (length N1) e)))) in
       let first : place + 1 ≡ length N1 = omega (arith, p, more) in
       apply_written b (MoreTerms e NoTerms) N2 N3 t t (type_of kid ∷ []) ((place + 1) ∷ []) row (ap (λ (m : ℕ). m ∷ []) first) (ap (λ (u : ValueType). u ∷ []) w.type) f refl g
-
-  -- the same of a node that is ended, if memory suffices
-  pub one_ended : {E : Type 0} → (b : Builtin) (e : SourceTerm) (N2 N3 : List Node) (kid : Ty) (r : Result Ty E) → IsWritten N1 N2 kid (unfolded_in B n S (length N1) e) →
-      IfOk r (λ t. type_of t ≡ type_given (judge_builtin b (type_of kid ∷ []))) → IfOk r (λ t. map view_of N3 ≡ slice_set (map view_of N2) place (Has (OfApply b) (type_of t) ((place + 1) ∷ []))) →
-      IfOk r (λ t. IsWritten N0 N3 t (unfolded_in B n S (length N0) (ApplyTerm b (MoreTerms e NoTerms))))
-  one_ended b e N2 N3 kid (Ok t) w f g = one_written b e N2 N3 kid t w f g
-  one_ended b e N2 N3 kid (Err m) w f g = tt
-
-  pub nbr_ended : {E : Type 0} → (e : SourceTerm) (N2 N3 : List Node) (kid : Ty) (r : Result Ty E) → IsWritten N1 N2 kid (unfolded_in B n S (length N1) e) →
-      IfOk r (λ t. type_of t ≡ TypeField (inner (type_of kid))) → IfOk r (λ t. map view_of N3 ≡ slice_set (map view_of N2) place (Has OfNbr (type_of t) ((place + 1) ∷ []))) →
-      IfOk r (λ t. IsWritten N0 N3 t (unfolded_in B n S (length N0) (NbrTerm e)))
-  nbr_ended e N2 N3 kid (Ok t) w f g = nbr_written e N2 N3 kid t t ((place + 1) ∷ []) w f refl refl g
-  nbr_ended e N2 N3 kid (Err m) w f g = tt
-
-  pub let_ended : {E : Type 0} → (x : List ℕ) (e b : SourceTerm) (N2 N3 N4 : List Node) (start end : Ty) (second : ℕ) (r : Result Ty E) →
-      length N2 ≡ length N1 + count (counted B n) e → IsWritten N1 N2 start (unfolded_in B n S (length N1) e) →
-      IsWritten N2 N3 end (unfolded_in B n (with_binder x place (type_of start) S) (length N2) b) → second ≡ length N2 →
-      IfOk r (λ t. type_of t ≡ type_of end) → IfOk r (λ t. map view_of N4 ≡ slice_set (map view_of N3) place (Has OfLet (type_of t) ((place + 1) ∷ second ∷ []))) →
-      IfOk r (λ t. IsWritten N0 N4 t (unfolded_in B n S (length N0) (LetTerm x e b)))
-  let_ended x e b N2 N3 N4 start end second (Ok t) l h i q c g =
-      let w = let_written x e b N2 N3 N4 start end t second ((place + 1) ∷ second ∷ []) l h i q c refl g in
-      record { nodes = w.nodes; type = c ∙ w.type }
-  let_ended x e b N2 N3 N4 start end second (Err m) l h i q c g = tt

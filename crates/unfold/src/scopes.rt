@@ -1,13 +1,15 @@
 //! The names in scope.
 
-ghost use Rattle.std.specs.Prelude.{◌≡◌, ◌++◌, [], ◌∷◌, IfOk, map};
+ghost use Rattle.std.specs.Prelude.{◌≡◌, ◌++◌, [], ◌∷◌, OnOk, map};
 ghost use Rattle.fc_syntax.specs.Terms.{parameter_of};
+ghost use Rattle.fc_values.specs.Types.{type_of};
 ghost use Rattle.unfold.specs.Unfolding.{binder_of, variable_term};
 ghost use Rattle.unfold.specs.Writing.{argument_of, arguments, found_term, scope_of};
 
 use fc_syntax::Param;
 use fc_types::Known;
-use fc_values::{Memory, Name, Ty};
+use fc_values::{LocalTy, Memory, Name, Ty};
+use std::mem::replace;
 
 /// An argument of a call: the place of the `let` that binds it, and its type.
 #[derive(Drop)]
@@ -16,15 +18,15 @@ pub struct Argument {
     pub ty: Ty,
 }
 
-/// Arguments with one more.
+/// Adds an argument, and takes its type.
 #[inline(never)]
-pub fn with_argument(given: Vec<Argument>, argument: Argument) -> Result<Vec<Argument>, Memory>
-    ensures { IfOk result (λ more. map argument_of more.items
-        ≡ map argument_of given.items ++ argument_of argument ∷ []) }
+pub fn give(given: &mut Vec<Argument>, place: u32, ty: &mut Ty) -> Result<(), Memory>
+    ensures { OnOk result (map argument_of given.new.items
+        ≡ map argument_of given.old.items ++ (place, type_of ty.old) ∷ []) }
 {
-    let mut more = given;
-    more.push(argument)?;
-    Ok(more)
+    let ty = replace(ty, Ty::Local(LocalTy::Int));
+    given.push(Argument { place, ty })?;
+    Ok(())
 }
 
 /// The names in scope, each with the place of the node that binds it and its type: those of binders, the nearest first,

@@ -20,7 +20,7 @@ use crate::writing::write;
 use fc_nodes::{Node, Unfolded};
 use fc_syntax::Program;
 use fc_types::{Known, Typed};
-use fc_values::{MOST_NODES, Memory};
+use fc_values::{LocalTy, MOST_NODES, Memory, Ty};
 use std::alloc::Global;
 
 /// The nodes of a typed program: `main`, with each call replaced by one `let` per argument around the function's body.
@@ -65,6 +65,7 @@ fn nodes_of(alloc: Global, known: &Known<'_>, program: &Program) -> Result<Vec<N
         visible: functions,
         scope: &Scope::Arguments(&[], &[]),
     };
-    write(alloc, &around, main_of(program), &mut nodes)?;
+    let mut ty = Ty::Local(LocalTy::Int);
+    write(alloc, &around, main_of(program), &mut nodes, &mut ty)?;
     Ok(nodes)
 }

@@ -1,6 +1,6 @@
 //! Writing the nodes of expressions in preorder.
 
-ghost use Rattle.std.specs.Prelude.{◌≡◌, ◌≤◌, ◌<◌, ◌+◌, ◌^◌, ◌++◌, [], ◌∷◌, IfOk, length, map};
+ghost use Rattle.std.specs.Prelude.{◌≡◌, ◌≤◌, ◌<◌, ◌+◌, ◌^◌, ◌++◌, [], ◌∷◌, OnOk, length, map};
 ghost use Rattle.fc_syntax.specs.Terms.{ApplyTerm, CallTerm, IfTerm, LetTerm, NbrTerm, RepTerm, ShareTerm, MoreTerms, NoTerms, term_of, terms};
 ghost use Rattle.fc_values.specs.Types.{type_of};
 ghost use Rattle.fc_nodes.specs.Terms.{places as places_of, view_of};
@@ -13,52 +13,55 @@ ghost use Rattle.unfold.specs.Writing.{HasRoom, IsLonger, IsWritten, all_nodes_i
 
 use crate::names::{find, last_body};
 use crate::putting::{
-    begin_node, end_builtin, end_let, end_nbr, end_node, given_type, put_input, put_links,
-    put_number, put_truth, put_uid, put_untyped, put_variable,
+    begin_node, end_apply, end_builtin, end_if, end_nbr, end_two, give_shared, put_input,
+    put_links, put_number, put_truth, put_uid, put_untyped, put_variable,
 };
-use crate::scopes::{Argument, Scope, Surroundings, with_argument};
+use crate::scopes::{Argument, Scope, Surroundings, give};
 use fc_nodes::{Node, Op};
 use fc_syntax::Expr;
-use fc_types::{Known, copy_type, shared_type};
-use fc_values::{Builtin, Memory, Name, Ty};
+use fc_types::Known;
+use fc_values::{Builtin, LocalTy, Memory, Name, Ty};
 use std::alloc::Global;
 
 /// The nodes of an expression behind others, with its type. Expressions may be thousands of levels deep, so each form
-/// has a function of its own, and a level takes little of the stack.
+/// has a function of its own, types go to a place of the caller, and a level takes little of the stack.
 #[cycle(write)]
 pub fn write(
     alloc: Global,
     around: &Surroundings<'_, '_>,
     expr: &Expr,
     nodes: &mut Vec<Node>,
-) -> Result<Ty, Memory>
+    ty: &mut Ty,
+) -> Result<(), Memory>
     requires inputs { length (known_of around.now.known.now).inputs < 2 ^ 32 }
     requires room { HasRoom nodes.old.items (nodes_in (surroundings_of around.now) (term_of expr.now)) }
-    ensures long { IfOk result (λ _. IsLonger nodes.old.items nodes.new.items
+    ensures long { OnOk result (IsLonger nodes.old.items nodes.new.items
         (nodes_in (surroundings_of around.now) (term_of expr.now))) }
-    ensures written { IfOk result (λ ty. IsWritten nodes.old.items nodes.new.items ty
+    ensures written { OnOk result (IsWritten nodes.old.items nodes.new.items ty.new
         (unfolded_by (surroundings_of around.now) (length nodes.old.items) (term_of expr.now))) }
 {
     match expr {
-        Expr::Int(n) => put_number(alloc, nodes, *n),
-        Expr::Truth(b) => put_truth(alloc, nodes, *b),
-        Expr::Var(name) => put_variable(alloc, around.scope, name, nodes),
-        Expr::Uid => put_uid(alloc, nodes),
-        Expr::NbrLink => put_links(alloc, nodes),
-        Expr::Sense(name) => put_input(alloc, around.known, name, nodes),
+        Expr::Int(n) => put_number(alloc, nodes, *n, ty),
+        Expr::Truth(b) => put_truth(alloc, nodes, *b, ty),
+        Expr::Var(name) => put_variable(alloc, around.scope, name, nodes, ty),
+        Expr::Uid => put_uid(alloc, nodes, ty),
+        Expr::NbrLink => put_links(alloc, nodes, ty),
+        Expr::Sense(name) => put_input(alloc, around.known, name, nodes, ty),
         Expr::Apply(builtin, args) if args.len() == 1 => {
-            write_one(alloc, around, *builtin, args, nodes)
+            write_one(alloc, around, *builtin, args, nodes, ty)
         }
-        Expr::Apply(builtin, args) => write_apply(alloc, around, *builtin, args, nodes),
-        Expr::Nbr(inner) => write_nbr(alloc, around, inner, nodes),
-        Expr::Rep(first, name, body) => write_rep(alloc, around, first, name, body, nodes),
-        Expr::Share(first, name, body) => write_share(alloc, around, first, name, body, nodes),
-        Expr::If(condition, then, other) => write_if(alloc, around, condition, then, other, nodes),
-        Expr::Let(name, bound, body) => write_let(alloc, around, name, bound, body, nodes),
+        Expr::Apply(builtin, args) => write_apply(alloc, around, *builtin, args, nodes, ty),
+        Expr::Nbr(inner) => write_nbr(alloc, around, inner, nodes, ty),
+        Expr::Rep(first, name, body) => write_rep(alloc, around, first, name, body, nodes, ty),
+        Expr::Share(first, name, body) => write_share(alloc, around, first, name, body, nodes, ty),
+        Expr::If(condition, then, other) => {
+            write_if(alloc, around, condition, then, other, nodes, ty)
+        }
+        Expr::Let(name, bound, body) => write_let(alloc, around, name, bound, body, nodes, ty),
         Expr::Call(name, args) if args.is_empty() => {
-            write_bare_call(alloc, around.known, around.visible, name, nodes)
+            write_bare_call(alloc, around.known, around.visible, name, nodes, ty)
         }
-        Expr::Call(name, args) => write_call(alloc, around, name, args, nodes),
+        Expr::Call(name, args) => write_call(alloc, around, name, args, nodes, ty),
     }
 }
 
@@ -71,20 +74,22 @@ fn write_one(
     builtin: Builtin,
     args: &[Expr],
     nodes: &mut Vec<Node>,
-) -> Result<Ty, Memory>
+    ty: &mut Ty,
+) -> Result<(), Memory>
     requires one { length args.now ≡ 1 }
     requires inputs { length (known_of around.now.known.now).inputs < 2 ^ 32 }
     requires room { HasRoom nodes.old.items
         (nodes_in (surroundings_of around.now) (ApplyTerm builtin (terms (map term_of args.now)))) }
-    ensures long { IfOk result (λ _. IsLonger nodes.old.items nodes.new.items
+    ensures long { OnOk result (IsLonger nodes.old.items nodes.new.items
         (nodes_in (surroundings_of around.now) (ApplyTerm builtin (terms (map term_of args.now))))) }
-    ensures written { IfOk result (λ ty. IsWritten nodes.old.items nodes.new.items ty
+    ensures written { OnOk result (IsWritten nodes.old.items nodes.new.items ty.new
         (unfolded_by (surroundings_of around.now) (length nodes.old.items)
         (ApplyTerm builtin (terms (map term_of args.now))))) }
 {
     let place = begin_node(alloc, nodes)?;
-    let kid = write(alloc, around, &args[0], nodes)?;
-    end_builtin(alloc, nodes, place, builtin, kid)
+    write(alloc, around, &args[0], nodes, ty)?;
+    end_builtin(alloc, nodes, place, builtin, ty)?;
+    Ok(())
 }
 
 // A builtin.
@@ -96,13 +101,14 @@ fn write_apply(
     builtin: Builtin,
     args: &[Expr],
     nodes: &mut Vec<Node>,
-) -> Result<Ty, Memory>
+    ty: &mut Ty,
+) -> Result<(), Memory>
     requires inputs { length (known_of around.now.known.now).inputs < 2 ^ 32 }
     requires room { HasRoom nodes.old.items
         (nodes_in (surroundings_of around.now) (ApplyTerm builtin (terms (map term_of args.now)))) }
-    ensures long { IfOk result (λ _. IsLonger nodes.old.items nodes.new.items
+    ensures long { OnOk result (IsLonger nodes.old.items nodes.new.items
         (nodes_in (surroundings_of around.now) (ApplyTerm builtin (terms (map term_of args.now))))) }
-    ensures written { IfOk result (λ ty. IsWritten nodes.old.items nodes.new.items ty
+    ensures written { OnOk result (IsWritten nodes.old.items nodes.new.items ty.new
         (unfolded_by (surroundings_of around.now) (length nodes.old.items)
         (ApplyTerm builtin (terms (map term_of args.now))))) }
 {
@@ -110,15 +116,8 @@ fn write_apply(
     let mut places = Vec::with_capacity(alloc, args.len())?;
     let mut types = Vec::with_capacity(alloc, args.len())?;
     write_all(alloc, around, args, nodes, &mut places, &mut types)?;
-    let ty = given_type(alloc, builtin, &types)?;
-    end_node(
-        nodes,
-        place,
-        Op::Apply(builtin),
-        copy_type(alloc, &ty)?,
-        places,
-    );
-    Ok(ty)
+    end_apply(alloc, nodes, place, builtin, places, &types, ty)?;
+    Ok(())
 }
 
 // The nodes of expressions in a row, with their places and types behind others.
@@ -134,15 +133,15 @@ fn write_all(
 ) -> Result<(), Memory>
     requires inputs { length (known_of around.now.known.now).inputs < 2 ^ 32 }
     requires room { HasRoom nodes.old.items (all_nodes_in (surroundings_of around.now) (terms (map term_of args.now))) }
-    ensures long { IfOk result (λ _. IsLonger nodes.old.items nodes.new.items
+    ensures long { OnOk result (IsLonger nodes.old.items nodes.new.items
         (all_nodes_in (surroundings_of around.now) (terms (map term_of args.now)))) }
-    ensures nodes { IfOk result (λ _. map view_of nodes.new.items ≡ map view_of nodes.old.items
+    ensures nodes { OnOk result (map view_of nodes.new.items ≡ map view_of nodes.old.items
         ++ all_listed (length nodes.old.items)
         (all_unfolded_by (surroundings_of around.now) (length nodes.old.items) (terms (map term_of args.now)))) }
-    ensures places { IfOk result (λ _. places.new.items ≡ places.old.items
+    ensures places { OnOk result (places.new.items ≡ places.old.items
         ++ places_of (length nodes.old.items)
         (all_unfolded_by (surroundings_of around.now) (length nodes.old.items) (terms (map term_of args.now)))) }
-    ensures types { IfOk result (λ _. map type_of types.new.items ≡ map type_of types.old.items
+    ensures types { OnOk result (map type_of types.new.items ≡ map type_of types.old.items
         ++ types_of
         (all_unfolded_by (surroundings_of around.now) (length nodes.old.items) (terms (map term_of args.now)))) }
 {
@@ -150,7 +149,9 @@ fn write_all(
         return Ok(());
     };
     places.push(nodes.len() as u32)?;
-    types.push(write(alloc, around, arg, nodes)?)?;
+    let mut ty = Ty::Local(LocalTy::Int);
+    write(alloc, around, arg, nodes, &mut ty)?;
+    types.push(ty)?;
     write_all(alloc, around, rest, nodes, places, types)?;
     Ok(())
 }
@@ -163,17 +164,19 @@ fn write_nbr(
     around: &Surroundings<'_, '_>,
     inner: &Expr,
     nodes: &mut Vec<Node>,
-) -> Result<Ty, Memory>
+    ty: &mut Ty,
+) -> Result<(), Memory>
     requires inputs { length (known_of around.now.known.now).inputs < 2 ^ 32 }
     requires room { HasRoom nodes.old.items (nodes_in (surroundings_of around.now) (NbrTerm (term_of inner.now))) }
-    ensures long { IfOk result (λ _. IsLonger nodes.old.items nodes.new.items
+    ensures long { OnOk result (IsLonger nodes.old.items nodes.new.items
         (nodes_in (surroundings_of around.now) (NbrTerm (term_of inner.now)))) }
-    ensures written { IfOk result (λ ty. IsWritten nodes.old.items nodes.new.items ty
+    ensures written { OnOk result (IsWritten nodes.old.items nodes.new.items ty.new
         (unfolded_by (surroundings_of around.now) (length nodes.old.items) (NbrTerm (term_of inner.now)))) }
 {
     let place = begin_node(alloc, nodes)?;
-    let kid = write(alloc, around, inner, nodes)?;
-    end_nbr(alloc, nodes, place, kid)
+    write(alloc, around, inner, nodes, ty)?;
+    end_nbr(alloc, nodes, place, ty)?;
+    Ok(())
 }
 
 // A value that evolves by `rep`.
@@ -186,29 +189,30 @@ fn write_rep(
     name: &Name,
     body: &Expr,
     nodes: &mut Vec<Node>,
-) -> Result<Ty, Memory>
+    ty: &mut Ty,
+) -> Result<(), Memory>
     requires inputs { length (known_of around.now.known.now).inputs < 2 ^ 32 }
     requires room { HasRoom nodes.old.items
         (nodes_in (surroundings_of around.now) (RepTerm (term_of first.now) name.now.text.items (term_of body.now))) }
-    ensures long { IfOk result (λ _. IsLonger nodes.old.items nodes.new.items
+    ensures long { OnOk result (IsLonger nodes.old.items nodes.new.items
         (nodes_in (surroundings_of around.now) (RepTerm (term_of first.now) name.now.text.items (term_of body.now)))) }
-    ensures written { IfOk result (λ ty. IsWritten nodes.old.items nodes.new.items ty
+    ensures written { OnOk result (IsWritten nodes.old.items nodes.new.items ty.new
         (unfolded_by (surroundings_of around.now) (length nodes.old.items)
         (RepTerm (term_of first.now) name.now.text.items (term_of body.now)))) }
 {
     let place = begin_node(alloc, nodes)?;
-    let ty = write(alloc, around, first, nodes)?;
+    write(alloc, around, first, nodes, ty)?;
     let second = nodes.len() as u32;
-    let scope = Scope::Bind(&*name, place, &ty, &*around.scope);
+    let scope = Scope::Bind(&*name, place, &*ty, &*around.scope);
     let inner = Surroundings {
         known: &*around.known,
         visible: around.visible,
         scope: &scope,
     };
-    write(alloc, &inner, body, nodes)?;
-    let kids = vec![in alloc; place + 1, second]?;
-    end_node(nodes, place, Op::Rep, copy_type(alloc, &ty)?, kids);
-    Ok(ty)
+    let mut next = Ty::Local(LocalTy::Int);
+    write(alloc, &inner, body, nodes, &mut next)?;
+    end_two(alloc, nodes, place, second, Op::Rep, ty)?;
+    Ok(())
 }
 
 // A value that evolves by `share`.
@@ -221,20 +225,22 @@ fn write_share(
     name: &Name,
     body: &Expr,
     nodes: &mut Vec<Node>,
-) -> Result<Ty, Memory>
+    ty: &mut Ty,
+) -> Result<(), Memory>
     requires inputs { length (known_of around.now.known.now).inputs < 2 ^ 32 }
     requires room { HasRoom nodes.old.items
         (nodes_in (surroundings_of around.now) (ShareTerm (term_of first.now) name.now.text.items (term_of body.now))) }
-    ensures long { IfOk result (λ _. IsLonger nodes.old.items nodes.new.items
+    ensures long { OnOk result (IsLonger nodes.old.items nodes.new.items
         (nodes_in (surroundings_of around.now)
         (ShareTerm (term_of first.now) name.now.text.items (term_of body.now)))) }
-    ensures written { IfOk result (λ ty. IsWritten nodes.old.items nodes.new.items ty
+    ensures written { OnOk result (IsWritten nodes.old.items nodes.new.items ty.new
         (unfolded_by (surroundings_of around.now) (length nodes.old.items)
         (ShareTerm (term_of first.now) name.now.text.items (term_of body.now)))) }
 {
     let place = begin_node(alloc, nodes)?;
-    let ty = write(alloc, around, first, nodes)?;
-    let shared = shared_type(alloc, &ty)?;
+    write(alloc, around, first, nodes, ty)?;
+    let mut shared = Ty::Local(LocalTy::Int);
+    give_shared(alloc, ty, &mut shared)?;
     let second = nodes.len() as u32;
     let scope = Scope::Bind(&*name, place, &shared, &*around.scope);
     let inner = Surroundings {
@@ -242,10 +248,10 @@ fn write_share(
         visible: around.visible,
         scope: &scope,
     };
-    write(alloc, &inner, body, nodes)?;
-    let kids = vec![in alloc; place + 1, second]?;
-    end_node(nodes, place, Op::Share, copy_type(alloc, &ty)?, kids);
-    Ok(ty)
+    let mut next = Ty::Local(LocalTy::Int);
+    write(alloc, &inner, body, nodes, &mut next)?;
+    end_two(alloc, nodes, place, second, Op::Share, ty)?;
+    Ok(())
 }
 
 // A branching.
@@ -258,27 +264,28 @@ fn write_if(
     then: &Expr,
     other: &Expr,
     nodes: &mut Vec<Node>,
-) -> Result<Ty, Memory>
+    ty: &mut Ty,
+) -> Result<(), Memory>
     requires inputs { length (known_of around.now.known.now).inputs < 2 ^ 32 }
     requires room { HasRoom nodes.old.items
         (nodes_in (surroundings_of around.now)
         (IfTerm (term_of condition.now) (term_of then.now) (term_of other.now))) }
-    ensures long { IfOk result (λ _. IsLonger nodes.old.items nodes.new.items
+    ensures long { OnOk result (IsLonger nodes.old.items nodes.new.items
         (nodes_in (surroundings_of around.now)
         (IfTerm (term_of condition.now) (term_of then.now) (term_of other.now)))) }
-    ensures written { IfOk result (λ ty. IsWritten nodes.old.items nodes.new.items ty
+    ensures written { OnOk result (IsWritten nodes.old.items nodes.new.items ty.new
         (unfolded_by (surroundings_of around.now) (length nodes.old.items)
         (IfTerm (term_of condition.now) (term_of then.now) (term_of other.now)))) }
 {
     let place = begin_node(alloc, nodes)?;
-    write(alloc, around, condition, nodes)?;
+    let mut unused = Ty::Local(LocalTy::Int);
+    write(alloc, around, condition, nodes, &mut unused)?;
     let second = nodes.len() as u32;
-    let ty = write(alloc, around, then, nodes)?;
+    write(alloc, around, then, nodes, ty)?;
     let third = nodes.len() as u32;
-    write(alloc, around, other, nodes)?;
-    let kids = vec![in alloc; place + 1, second, third]?;
-    end_node(nodes, place, Op::If, copy_type(alloc, &ty)?, kids);
-    Ok(ty)
+    write(alloc, around, other, nodes, &mut unused)?;
+    end_if(alloc, nodes, place, second, third, ty)?;
+    Ok(())
 }
 
 // A bound value.
@@ -291,27 +298,30 @@ fn write_let(
     bound: &Expr,
     body: &Expr,
     nodes: &mut Vec<Node>,
-) -> Result<Ty, Memory>
+    ty: &mut Ty,
+) -> Result<(), Memory>
     requires inputs { length (known_of around.now.known.now).inputs < 2 ^ 32 }
     requires room { HasRoom nodes.old.items
         (nodes_in (surroundings_of around.now) (LetTerm name.now.text.items (term_of bound.now) (term_of body.now))) }
-    ensures long { IfOk result (λ _. IsLonger nodes.old.items nodes.new.items
+    ensures long { OnOk result (IsLonger nodes.old.items nodes.new.items
         (nodes_in (surroundings_of around.now) (LetTerm name.now.text.items (term_of bound.now) (term_of body.now)))) }
-    ensures written { IfOk result (λ ty. IsWritten nodes.old.items nodes.new.items ty
+    ensures written { OnOk result (IsWritten nodes.old.items nodes.new.items ty.new
         (unfolded_by (surroundings_of around.now) (length nodes.old.items)
         (LetTerm name.now.text.items (term_of bound.now) (term_of body.now)))) }
 {
     let place = begin_node(alloc, nodes)?;
-    let bound = write(alloc, around, bound, nodes)?;
+    let mut bound_type = Ty::Local(LocalTy::Int);
+    write(alloc, around, bound, nodes, &mut bound_type)?;
     let second = nodes.len() as u32;
-    let scope = Scope::Bind(&*name, place, &bound, &*around.scope);
+    let scope = Scope::Bind(&*name, place, &bound_type, &*around.scope);
     let inner = Surroundings {
         known: &*around.known,
         visible: around.visible,
         scope: &scope,
     };
-    let ty = write(alloc, &inner, body, nodes)?;
-    end_let(alloc, nodes, place, second, ty)
+    write(alloc, &inner, body, nodes, ty)?;
+    end_two(alloc, nodes, place, second, Op::Let, ty)?;
+    Ok(())
 }
 
 // A call with arguments.
@@ -323,18 +333,20 @@ fn write_call(
     name: &Name,
     args: &[Expr],
     nodes: &mut Vec<Node>,
-) -> Result<Ty, Memory>
+    ty: &mut Ty,
+) -> Result<(), Memory>
     requires inputs { length (known_of around.now.known.now).inputs < 2 ^ 32 }
     requires room { HasRoom nodes.old.items
         (nodes_in (surroundings_of around.now) (CallTerm name.now.text.items (terms (map term_of args.now)))) }
-    ensures long { IfOk result (λ _. IsLonger nodes.old.items nodes.new.items
+    ensures long { OnOk result (IsLonger nodes.old.items nodes.new.items
         (nodes_in (surroundings_of around.now) (CallTerm name.now.text.items (terms (map term_of args.now))))) }
-    ensures written { IfOk result (λ ty. IsWritten nodes.old.items nodes.new.items ty
+    ensures written { OnOk result (IsWritten nodes.old.items nodes.new.items ty.new
         (unfolded_by (surroundings_of around.now) (length nodes.old.items)
         (CallTerm name.now.text.items (terms (map term_of args.now))))) }
 {
-    let given = Vec::new(alloc);
-    write_given(alloc, around, name, given, args, nodes)
+    let mut given = Vec::new(alloc);
+    write_given(alloc, around, name, &mut given, args, nodes, ty)?;
+    Ok(())
 }
 
 // What is left of a call, behind the arguments that are given: a `let` for each further one, around the body.
@@ -344,22 +356,31 @@ fn write_given(
     alloc: Global,
     around: &Surroundings<'_, '_>,
     name: &Name,
-    given: Vec<Argument>,
+    given: &mut Vec<Argument>,
     args: &[Expr],
     nodes: &mut Vec<Node>,
-) -> Result<Ty, Memory>
+    ty: &mut Ty,
+) -> Result<(), Memory>
     requires inputs { length (known_of around.now.known.now).inputs < 2 ^ 32 }
     requires room { HasRoom nodes.old.items
         (call_nodes_in (surroundings_of around.now) name.now.text.items (terms (map term_of args.now))) }
-    ensures long { IfOk result (λ _. IsLonger nodes.old.items nodes.new.items
+    ensures long { OnOk result (IsLonger nodes.old.items nodes.new.items
         (call_nodes_in (surroundings_of around.now) name.now.text.items (terms (map term_of args.now)))) }
-    ensures written { IfOk result (λ ty. IsWritten nodes.old.items nodes.new.items ty
-        (call_within (surroundings_of around.now) name.now.text.items (map argument_of given.items)
+    ensures written { OnOk result (IsWritten nodes.old.items nodes.new.items ty.new
+        (call_within (surroundings_of around.now) name.now.text.items (map argument_of given.old.items)
         (length nodes.old.items) (terms (map term_of args.now)))) }
 {
     match args {
-        [] => write_body(alloc, around.known, around.visible, name, &given, nodes),
-        [arg, rest @ ..] => write_argument(alloc, around, name, given, arg, rest, nodes),
+        [] => write_body(
+            alloc,
+            around.known,
+            around.visible,
+            name,
+            &*given,
+            nodes,
+            ty,
+        ),
+        [arg, rest @ ..] => write_argument(alloc, around, name, given, arg, rest, nodes, ty),
     }
 }
 
@@ -370,27 +391,29 @@ fn write_argument(
     alloc: Global,
     around: &Surroundings<'_, '_>,
     name: &Name,
-    given: Vec<Argument>,
+    given: &mut Vec<Argument>,
     arg: &Expr,
     rest: &[Expr],
     nodes: &mut Vec<Node>,
-) -> Result<Ty, Memory>
+    ty: &mut Ty,
+) -> Result<(), Memory>
     requires inputs { length (known_of around.now.known.now).inputs < 2 ^ 32 }
     requires room { HasRoom nodes.old.items (call_nodes_in (surroundings_of around.now) name.now.text.items
         (MoreTerms (term_of arg.now) (terms (map term_of rest.now)))) }
-    ensures long { IfOk result (λ _. IsLonger nodes.old.items nodes.new.items
+    ensures long { OnOk result (IsLonger nodes.old.items nodes.new.items
         (call_nodes_in (surroundings_of around.now) name.now.text.items
         (MoreTerms (term_of arg.now) (terms (map term_of rest.now))))) }
-    ensures written { IfOk result (λ ty. IsWritten nodes.old.items nodes.new.items ty
-        (call_within (surroundings_of around.now) name.now.text.items (map argument_of given.items)
+    ensures written { OnOk result (IsWritten nodes.old.items nodes.new.items ty.new
+        (call_within (surroundings_of around.now) name.now.text.items (map argument_of given.old.items)
         (length nodes.old.items) (MoreTerms (term_of arg.now) (terms (map term_of rest.now))))) }
 {
     let place = begin_node(alloc, nodes)?;
-    let ty = write(alloc, around, arg, nodes)?;
+    write(alloc, around, arg, nodes, ty)?;
     let second = nodes.len() as u32;
-    let given = with_argument(given, Argument { place, ty })?;
-    let ty = write_given(alloc, around, name, given, rest, nodes)?;
-    end_let(alloc, nodes, place, second, ty)
+    give(given, place, ty)?;
+    write_given(alloc, around, name, given, rest, nodes, ty)?;
+    end_two(alloc, nodes, place, second, Op::Let, ty)?;
+    Ok(())
 }
 
 // A function's body, with its arguments.
@@ -403,12 +426,13 @@ fn write_body(
     name: &Name,
     given: &[Argument],
     nodes: &mut Vec<Node>,
-) -> Result<Ty, Memory>
+    ty: &mut Ty,
+) -> Result<(), Memory>
     requires inputs { length (known_of known.now).inputs < 2 ^ 32 }
     requires room { HasRoom nodes.old.items (size_of name.now.text.items (counted (known_of known.now) visible)) }
-    ensures long { IfOk result (λ _. IsLonger nodes.old.items nodes.new.items
+    ensures long { OnOk result (IsLonger nodes.old.items nodes.new.items
         (size_of name.now.text.items (counted (known_of known.now) visible))) }
-    ensures written { IfOk result (λ ty. IsWritten nodes.old.items nodes.new.items ty
+    ensures written { OnOk result (IsWritten nodes.old.items nodes.new.items ty.new
         (call_in (known_of known.now) visible [] name.now.text.items
         (map argument_of given.now) (length nodes.old.items) NoTerms)) }
 {
@@ -419,9 +443,9 @@ fn write_body(
                 visible: number,
                 scope: &Scope::Arguments(function.params, given),
             };
-            write(alloc, &around, function.body, nodes)
+            write(alloc, &around, function.body, nodes, ty)
         }
-        None => put_untyped(alloc, nodes),
+        None => put_untyped(alloc, nodes, ty),
     }
 }
 
@@ -434,12 +458,13 @@ fn write_bare_call(
     visible: usize,
     name: &Name,
     nodes: &mut Vec<Node>,
-) -> Result<Ty, Memory>
+    ty: &mut Ty,
+) -> Result<(), Memory>
     requires inputs { length (known_of known.now).inputs < 2 ^ 32 }
     requires room { HasRoom nodes.old.items (size_of name.now.text.items (counted (known_of known.now) visible)) }
-    ensures long { IfOk result (λ _. IsLonger nodes.old.items nodes.new.items
+    ensures long { OnOk result (IsLonger nodes.old.items nodes.new.items
         (size_of name.now.text.items (counted (known_of known.now) visible))) }
-    ensures written { IfOk result (λ ty. IsWritten nodes.old.items nodes.new.items ty
+    ensures written { OnOk result (IsWritten nodes.old.items nodes.new.items ty.new
         (call_in (known_of known.now) visible [] name.now.text.items [] (length nodes.old.items) NoTerms)) }
 {
     match last_body(&*known, visible, &*name) {
@@ -449,8 +474,8 @@ fn write_bare_call(
                 visible: seen,
                 scope: &Scope::Arguments(&[], &[]),
             };
-            write(alloc, &around, body, nodes)
+            write(alloc, &around, body, nodes, ty)
         }
-        None => put_untyped(alloc, nodes),
+        None => put_untyped(alloc, nodes, ty),
     }
 }

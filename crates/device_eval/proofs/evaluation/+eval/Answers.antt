@@ -215,12 +215,12 @@ eval_if-eval-requires t c =
       },
     )
 
-pub eval_if-same_branch-made-requires-clause-own : goal.eval_if-same_branch-made-requires-clause-own
-eval_if-same_branch-made-requires-clause-own t c =
+pub eval_if-take_branch-requires-clause-own : goal.eval_if-take_branch-requires-clause-own
+eval_if-take_branch-requires-clause-own t c =
     if_own (node_here c.requires) c.slot_of-slot.ensures
 
-pub eval_if-same_branch-made-requires-clause-near : goal.eval_if-same_branch-made-requires-clause-near
-eval_if-same_branch-made-requires-clause-near t c =
+pub eval_if-take_branch-requires-clause-near : goal.eval_if-take_branch-requires-clause-near
+eval_if-take_branch-requires-clause-near t c =
     if_near (node_here c.requires) c.slot_of-slot.ensures
 
 pub eval_if-branch_of-kid-requires : goal.eval_if-branch_of-kid-requires
@@ -242,16 +242,16 @@ eval_if-eval-requires-2 t c =
     let truth = truth_read c.requires c.index.ensures c.in_ok-eval.ensures place c.index-2.ensures in
     let kid = kid_behind _ c.branch_of-kid.ensures c.deref.ensures.value in
     let r = branch_begins c.requires c.index.ensures c.in_ok-eval.ensures place truth c.slot_of-slot.ensures
-    c.truncate.ensures.items (rw c.in-Ok.is at c.same_branch-made.ensures) kid in
+    c.truncate.ensures.items c.in_ok-take_branch.ensures kid in
     let m = r.0 in
     let w = c.requires.here.ready.stands.within in (
       omega (arith, d, m, w),
       ready_as r.2 (branch_allowed c.requires c.index.ensures c.in_ok-eval.ensures place truth c.slot_of-slot.ensures
-          c.truncate.ensures.items (rw c.in-Ok.is at c.same_branch-made.ensures) kid)
+          c.truncate.ensures.items c.in_ok-take_branch.ensures kid)
           (branch_vars c.requires c.index.ensures c.in_ok-eval.ensures place truth c.slot_of-slot.ensures
-          c.truncate.ensures.items (rw c.in-Ok.is at c.same_branch-made.ensures) kid) refl
+          c.truncate.ensures.items c.in_ok-take_branch.ensures kid) refl
           (branch_below c.requires c.index.ensures c.in_ok-eval.ensures place truth c.slot_of-slot.ensures
-          c.truncate.ensures.items (rw c.in-Ok.is at c.same_branch-made.ensures) kid) c.own_row.ensures,
+          c.truncate.ensures.items c.in_ok-take_branch.ensures kid) c.own_row.ensures,
     )
 
 pub eval_if-put-requires : goal.eval_if-put-requires
@@ -261,7 +261,7 @@ eval_if-put-requires t c =
     let kid = kid_behind _ c.branch_of-kid.ensures c.deref.ensures.value in
     slots_long c.eval-2.new.draft c.slot_of-slot.result
     (if_room c.requires c.index.ensures c.in_ok-eval.ensures place truth c.slot_of-slot.ensures c.truncate.ensures.items
-    (rw c.in-Ok.is at c.same_branch-made.ensures) kid c.in_ok-eval-2.ensures refl refl)
+    c.in_ok-take_branch.ensures kid c.in_ok-eval-2.ensures refl refl)
 
 pub eval_if-returns : goal.eval_if-returns
 eval_if-returns t c =
@@ -269,7 +269,7 @@ eval_if-returns t c =
     let truth = truth_read c.requires c.index.ensures c.in_ok-eval.ensures place c.index-2.ensures in
     let kid = kid_behind _ c.branch_of-kid.ensures c.deref.ensures.value in
     if_evaluated c.requires c.index.ensures c.in_ok-eval.ensures place truth c.slot_of-slot.ensures
-    c.truncate.ensures.items (rw c.in-Ok.is at c.same_branch-made.ensures) kid c.in_ok-eval-2.ensures refl refl c.put.ensures
+    c.truncate.ensures.items c.in_ok-take_branch.ensures kid c.in_ok-eval-2.ensures refl refl c.put.ensures
 
 pub eval_rep-index-start-requires : goal.eval_rep-index-start-requires
 eval_rep-index-start-requires t c =

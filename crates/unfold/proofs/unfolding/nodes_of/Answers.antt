@@ -23,4 +23,4 @@ write-requires-clause-room c =
 pub returns : goal.returns
 returns c =
     let n = c.len-functions.ensures.len ∙ sym (length-map c.args.known.now.functions.entries function_entry) in
-    main_written (program_of c.args.program.now) (known_of c.args.known.now) c.len-functions.result (term_of c.main_of.result.now) c.new-nodes.result.items c.write.new.nodes.items c.in_ok-write.field-0 c.requires.known n c.main_of.ensures c.new-nodes.ensures.items c.in_ok-write.ensures.written
+    main_written (program_of c.args.program.now) (known_of c.args.known.now) c.len-functions.result (term_of c.main_of.result.now) c.new-nodes.result.items c.write.new.nodes.items c.write.new.ty c.requires.known n c.main_of.ensures c.new-nodes.ensures.items c.in_ok-write.ensures.written
