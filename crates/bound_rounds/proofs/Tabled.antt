@@ -70,10 +70,10 @@ by_stands U E envelope xs l =
             let q : is_in i is ≡ true = ap (λ y. is_in y is) (sym e) ∙ k in
             absurd cc)
 
--- bounds with as many slots as those of a table
-pub fit_copies : (U : Unfolding) (E : Envelope) (xs ys : List FlatBound) → slot_counts ys ≡ slot_counts xs
+-- drafts with as many slots as the bounds of a table
+pub fit_drafts : (U : Unfolding) (E : Envelope) (xs ys : List FlatBound) → slot_counts ys ≡ slot_counts xs
     → FitTable U E xs → FitTable U E ys
-fit_copies U E xs ys e f =
+fit_drafts U E xs ys e f =
     let slots = λ (x : FlatBound). length x.slots.items in
     let long : length ys ≡ length xs = sym (length-map ys slots) ∙ ap length e ∙ length-map xs slots in
     record {

@@ -1,7 +1,7 @@
 //! Rounds over tables of bounds of exports, within an envelope.
 #![tactic(auto)]
 
-mod copies;
+mod drafts;
 mod laws;
 mod rounds;
 

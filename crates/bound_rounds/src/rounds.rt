@@ -10,7 +10,7 @@ ghost use Rattle.bound_rounds.specs.Rounds.{BoundTable, fired_within, next_withi
 ghost use Rattle.bound_rounds.specs.Tables.{Stand, FitTable, SeeTable, AreMarked, AllMarked, AreSwapped};
 ghost use Rattle.bound_rounds.specs.Tables.{IsReady, IsFiredTable, IsRound, device_at};
 
-use crate::copies::copy_bounds;
+use crate::drafts::drafts_for;
 use bound_firing::{ExportBound, NearSeat, OwnSeat, Seats, fire_bounds};
 use envelopes::Envelope;
 use export_bounds::{same_export_bound, widen_bound};
@@ -41,18 +41,17 @@ pub fn table_of(
     alloc: Global,
     program: &Unfolded,
     envelope: &Envelope,
-    bounds: &[ExportBound],
+    bounds: Vec<ExportBound>,
 ) -> Result<Table, Memory>
-    requires { FitTable (unfolding_of program.now) envelope.now bounds.now }
+    requires { FitTable (unfolding_of program.now) envelope.now bounds.items }
     ensures ready { IfOk result (λ t. (k : RoundKind) → IsReady k (unfolding_of program.now) envelope.now t) }
     ensures bounds { IfOk result (λ t. (table : BoundTable)
-        → Stand (unfolding_of program.now) envelope.now table bounds.now
+        → Stand (unfolding_of program.now) envelope.now table bounds.items
         → Stand (unfolding_of program.now) envelope.now table t.bounds.items) }
     ensures envelope { OnOk result (IsEnvelope envelope.now) }
 {
     let count = envelope.devices().len();
-    let drafts = copy_bounds(alloc, bounds)?;
-    let bounds = copy_bounds(alloc, bounds)?;
+    let drafts = drafts_for(alloc, &bounds)?;
     let changed = vec![in alloc; false; count]?;
     let due = vec![in alloc; true; count]?;
     Ok(Table {

@@ -34,7 +34,7 @@ pub(crate) fn from_any(
         (any_table (unfolding_of program.now)) (value_of a)) }
 {
     let bounds = any_bounds(alloc, program, envelope)?;
-    of_start(alloc, options, program, envelope, &bounds)
+    of_start(alloc, options, program, envelope, bounds)
 }
 
 /// The same from the table and the copies in flight of a scene.
@@ -57,5 +57,5 @@ pub(crate) fn from_scene(
     let program = Arc::new(alloc, program)?;
     let mut core = start(alloc, &program, scene)?;
     let bounds = start_bounds(alloc, &mut core, envelope)?;
-    of_start(alloc, options, core.program(), envelope, &bounds)
+    of_start(alloc, options, core.program(), envelope, bounds)
 }

@@ -73,13 +73,13 @@ pub(crate) fn of_start(
     options: ChangesOptions,
     program: &Unfolded,
     envelope: &Envelope,
-    start: &[ExportBound],
+    start: Vec<ExportBound>,
 ) -> Result<Answer, Memory>
     requires declared { envelope.now.declared ≡ program.now.declared }
-    requires fits { FitTable (unfolding_of program.now) envelope.now start.now }
+    requires fits { FitTable (unfolding_of program.now) envelope.now start.items }
     requires some { 1 ≤ length envelope.now.devices }
     requires few { length envelope.now.devices ≤ MOST_DEVICES }
-    ensures { IfOk result (λ a. (table : BoundTable) → Stand (unfolding_of program.now) envelope.now table start.now
+    ensures { IfOk result (λ a. (table : BoundTable) → Stand (unfolding_of program.now) envelope.now table start.items
         → IsWritten options (unfolding_of program.now) envelope.now table (value_of a)) }
 {
     let devices = envelope.devices().len();

@@ -3,6 +3,7 @@ use Rattle.std.proofs.Common.{◌≡◌, ℕ, zero, suc, ◌<◌, ◌≤◌, Lis
 use Rattle.std.proofs.Common.{arith, Bool, true, false, not, ◌⊎◌, inl, inr, All}
 use Rattle.std.specs.declared.alloc.Global.{Global}
 use Rattle.std.specs.declared.vec.Vec.{Vec}
+use Rattle.std.proofs.lemmas.List.{get_or-map}
 use Rattle.fc_nodes.specs.Program.{Unfolding}
 use Rattle.value_bounds.specs.BoundValues.{BoundValue}
 use Rattle.value_bounds.specs.References.{local_bound_in}
@@ -17,7 +18,7 @@ use Rattle.last_bounds.specs.declared.changes.Change.{Change}
 use Rattle.last_bounds.specs.declared.lasts.LastBound.{LastBound as FlatLast}
 use Rattle.last_bounds.specs.LastBounds.{LastBound, EndsAfter, HasBoundFirst, IsLastBound, AreLastBounds}
 use Rattle.last_bounds.specs.References.{ChangeValue, IsFirst, EachIs, InTurn, FoundBy, AreChanges, HasEnded, IsMade}
-use Rattle.last_bounds.specs.References.{AreMade, changes_in, last_bound_in}
+use Rattle.last_bounds.specs.References.{AreMade, changes_in, last_bound_in, values_in}
 
 -- ---- the first change to a bound, which is there
 
@@ -110,7 +111,8 @@ module _ (U : Unfolding) (E : Envelope) (start : BoundTable) where
       pub last : IsLastBound U E start n (last_bound_in l)
 
     pub made_lasts : (ls : List FlatLast) → length ls ≡ length E.devices → length vs ≡ length E.devices
-        → AreMade E starts bs vs n (length E.devices) ls → AreLastBounds U E start cap (map last_bound_in ls)
+        → AreMade E (values_in starts) bs vs n (length E.devices) ls
+        → AreLastBounds U E start cap (map last_bound_in ls)
     made_lasts ls long wide made = record {
       rounds = n;
       ends = ended.ends;
@@ -127,12 +129,14 @@ module _ (U : Unfolding) (E : Envelope) (start : BoundTable) where
             by_lists [] q ws r = absurd (omega (arith, k, many, ap length q))
             by_lists (b ∷ ss) q [] r = absurd (omega (arith, k, wide, ap length r))
             by_lists (b ∷ ss) q (v ∷ ws) r =
-                let m = made i b v l k in
+                let value = λ (x : FlatBound). local_bound_in x.value in
+                let first = get_or-map value starts i b (value b) (omega (arith, k, many)) in
+                let m = made i (value b) b v l k in
                 record {
                   device = m.device;
-                  last = made_last (device_at E i) (local_bound_in (get_or starts i b).value)
+                  last = made_last (device_at E i) (get_or (values_in starts) i (value b))
                       (local_bound_in (get_or bs i b).value) (changes_in (get_or vs i v)) (get_or ls i l)
-                      (at_lives E i k) (ap (λ (x : ExportBound). x.value) (stand_at U E start starts from i b k))
+                      (at_lives E i k) (first ∙ ap (λ (x : ExportBound). x.value) (stand_at U E start starts from i b k))
                       (ap (λ (x : ExportBound). x.value)
                       (stand_at U E (rounds_within U E start n) bs ended.stands i b k)) (ended.changes i v k) m;
                 }

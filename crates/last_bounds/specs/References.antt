@@ -115,9 +115,13 @@ pub record IsMade (d : ℕ) (sure : Bool) (start last : BoundValue) (cs : List C
   pub before : local_bound_in l.before ≡ start
   pub away : l.away ≡ not sure
 
+-- the values of bounds
+abbrev pub values_in : List FlatBound → List BoundValue
+values_in bs = map (λ (b : FlatBound). local_bound_in b.value) bs
+
 -- of the devices before a place
-abbrev pub AreMade : Envelope → List FlatBound → List FlatBound → List (Vec Change Global) → ℕ → ℕ → List FlatLast
+abbrev pub AreMade : Envelope → List BoundValue → List FlatBound → List (Vec Change Global) → ℕ → ℕ → List FlatLast
     → Type 0
-AreMade E starts bs vs n k ls = (i : ℕ) (b : FlatBound) (v : Vec Change Global) (l : FlatLast) → i < k
-    → IsMade (device_at E i) (surely_lives E (device_at E i)) (local_bound_in (get_or starts i b).value)
+AreMade E firsts bs vs n k ls = (i : ℕ) (a : BoundValue) (b : FlatBound) (v : Vec Change Global) (l : FlatLast) → i < k
+    → IsMade (device_at E i) (surely_lives E (device_at E i)) (get_or firsts i a)
     (local_bound_in (get_or bs i b).value) (changes_in (get_or vs i v)) n (get_or ls i l)

@@ -43,7 +43,7 @@ pub fn settle(
 {
     let envelope = exact_envelope(alloc, network)?;
     let start = any_bounds(alloc, program, &envelope)?;
-    settle_over(alloc, program, &envelope, &start, cap)
+    settle_over(alloc, program, &envelope, start, cap)
 }
 
 // The same from a table of bounds.
@@ -51,12 +51,12 @@ pub(crate) fn settle_over(
     alloc: Global,
     program: &Unfolded,
     envelope: &Envelope,
-    start: &[ExportBound],
+    start: Vec<ExportBound>,
     cap: u32,
 ) -> Result<Vec<Option<Settled>>, Memory>
     requires declared { envelope.now.declared ≡ program.now.declared }
-    requires fits { FitTable (unfolding_of program.now) envelope.now start.now }
-    ensures { IfOk result (λ v. (table : BoundTable) → Stand (unfolding_of program.now) envelope.now table start.now
+    requires fits { FitTable (unfolding_of program.now) envelope.now start.items }
+    ensures { IfOk result (λ v. (table : BoundTable) → Stand (unfolding_of program.now) envelope.now table start.items
         → map (option_map settled_in) v.items ≡ all_settle_to (unfolding_of program.now) envelope.now table cap) }
 {
     let mut table = table_of(alloc, program, envelope, start)?;

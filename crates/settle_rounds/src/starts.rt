@@ -41,7 +41,7 @@ pub fn settle_from(alloc: Global, core: &mut Core, cap: u32) -> Result<Vec<Optio
 {
     let envelope = exact_envelope(alloc, core.net())?;
     let start = start_bounds(alloc, core, &envelope)?;
-    let settled = settle_over(alloc, core.program(), &envelope, &start, cap)?;
+    let settled = settle_over(alloc, core.program(), &envelope, start, cap)?;
     Ok(settled)
 }
 
@@ -59,7 +59,7 @@ pub fn start_bounds(
     ensures same { IsSameCore core.old core.new }
 {
     let first = first_bounds(alloc, core, envelope)?;
-    let start = grown_bounds(alloc, core.program(), envelope, &first)?;
+    let start = grown_bounds(alloc, core.program(), envelope, first)?;
     Ok(start)
 }
 
@@ -68,13 +68,13 @@ fn grown_bounds(
     alloc: Global,
     program: &Unfolded,
     envelope: &Envelope,
-    first: &[ExportBound],
+    first: Vec<ExportBound>,
 ) -> Result<Vec<ExportBound>, Memory>
     requires declared { envelope.now.declared ≡ program.now.declared }
     requires some { 1 ≤ length envelope.now.devices }
-    requires fits { FitTable (unfolding_of program.now) envelope.now first.now }
+    requires fits { FitTable (unfolding_of program.now) envelope.now first.items }
     ensures { IfOk result (λ v. (n : PlainNetwork) (c : PlainCore)
-        → FirstBounds (unfolding_of program.now) envelope.now n c first.now
+        → FirstBounds (unfolding_of program.now) envelope.now n c first.items
         → StartBounds (unfolding_of program.now) envelope.now n (growing_cap (length envelope.now.devices)) c v.items) }
 {
     let most = growing_cap(envelope.devices().len());
@@ -90,14 +90,14 @@ fn grow(
     alloc: Global,
     program: &Unfolded,
     envelope: &Envelope,
-    first: &[ExportBound],
+    first: Vec<ExportBound>,
     most: u32,
 ) -> Result<Option<Vec<ExportBound>>, Memory>
     requires declared { envelope.now.declared ≡ program.now.declared }
-    requires fits { FitTable (unfolding_of program.now) envelope.now first.now }
-    ensures grown { IfOk result (λ o. IfSome o (λ v. IsGrown (unfolding_of program.now) envelope.now most first.now
+    requires fits { FitTable (unfolding_of program.now) envelope.now first.items }
+    ensures grown { IfOk result (λ o. IfSome o (λ v. IsGrown (unfolding_of program.now) envelope.now most first.items
         v.items)) }
-    ensures longer { IfOk result (λ o. o ≡ None → GrowsOn (unfolding_of program.now) envelope.now most first.now) }
+    ensures longer { IfOk result (λ o. o ≡ None → GrowsOn (unfolding_of program.now) envelope.now most first.items) }
 {
     let mut table = table_of(alloc, program, envelope, first)?;
     let mut rounds = 0;

@@ -2,7 +2,8 @@ use Rattle.std.proofs.Common.{◌≡◌, ◌∙◌, length, get_or, sym, ap, ari
 use Rattle.std.proofs.lemmas.List.{length-map, get_or-replicate}
 use Rattle.fc_nodes.specs.Program.{unfolding_of}
 use Rattle.envelopes.specs.Code.{maybe_device_of}
-use Rattle.bound_rounds.proofs.Tabled.{fit_copies}
+use Rattle.bound_rounds.specs.Tables.{slot_counts}
+use Rattle.bound_rounds.proofs.Tabled.{fit_drafts}
 use Rattle.bound_rounds.proofs.rounds.table_of.Goals as goal
 
 pub returns-clause-ready : goal.returns-clause-ready
@@ -13,11 +14,10 @@ returns-clause-ready c k =
     sym (length-map c.devices-count.result.now maybe_device_of) ∙ ap length c.devices-count.ensures.value in
     let due = c.in_ok-due.ensures.items_if_clones_equal (λ y h. h) in
     let many : length c.in_ok-due.due.items ≡ length E.devices = sym c.in_ok-due.due.ok.0 ∙ c.in_ok-due.ensures.len
-    ∙ count in
-    let bounds = fit_copies U E c.args.bounds.now c.in_ok-bounds.bounds.items c.in_ok-bounds.ensures.slots
-    c.requires in record {
-      fits = bounds;
-      drafts = fit_copies U E c.args.bounds.now c.in_ok-drafts.drafts.items c.in_ok-drafts.ensures.slots c.requires;
+    ∙ count in record {
+      fits = c.requires;
+      drafts = fit_drafts U E c.args.bounds.items c.in_ok-drafts.drafts.items
+          (c.in_ok-drafts.ensures ∙ ap slot_counts c.deref.ensures.value) c.requires;
       changed = sym c.in_ok-changed.changed.ok.0 ∙ c.in_ok-changed.ensures.len ∙ count;
       many = many;
       due = λ t s. record {

@@ -1,9 +1,7 @@
-use Rattle.std.proofs.Common.{◌≡◌, List, length, map, ap, sym, ◌∙◌, subst}
+use Rattle.std.proofs.Common.{◌≡◌, length, ap, sym, ◌∙◌, subst}
 use Rattle.std.proofs.lemmas.Result.{IfOk-weaker}
 use Rattle.fc_nodes.specs.Program.{Program, unfolding_of}
 use Rattle.firing_core.specs.CoreViews.{core_of}
-use Rattle.bound_firing.specs.declared.firing.ExportBound.{ExportBound as FlatBound}
-use Rattle.bound_firing.specs.ExportReferences.{export_bound_in}
 use Rattle.bound_rounds.specs.Tables.{Stand}
 use Rattle.settle_rounds.specs.Starts.{growing_cap}
 use Rattle.net_json.specs.SceneCode.{value_of_scene}
@@ -27,9 +25,8 @@ returns c =
     c.in_ok-bounds.ensures.start in
     let here : c.deref.result.now ≡ P =
     c.deref.ensures ∙ c.program.ensures.value ∙ c.in_ok-bounds.ensures.same.program ∙ of_core in
-    let stands : Stand (unfolding_of c.deref.result.now) E b.table c.deref-2.result.now =
-    subst (λ (Q : Program). Stand (unfolding_of Q) E b.table c.deref-2.result.now) (sym here)
-    (ap (λ (xs : List FlatBound). map (export_bound_in (unfolding_of P)) xs) c.deref-2.ensures.value ∙ b.stands) in
+    let stands : Stand (unfolding_of c.deref.result.now) E b.table c.in_ok-bounds.bounds.items =
+    subst (λ (Q : Program). Stand (unfolding_of Q) E b.table c.in_ok-bounds.bounds.items) (sym here) b.stands in
     IfOk-weaker c.of_start.result _ _ (λ a h. record {
       table = b.table;
       starts = b.starts;

@@ -93,11 +93,11 @@ loop-rounds-preserved c =
     let noted = of_noted _ (suc j) c.deref-in-loop-rounds-2.result.now bs
     c.deref_mut-in-loop-rounds.result.now xs ys (add-one j)
     c.deref-in-loop-rounds-2.ensures.value c.deref_mut-in-loop-rounds.ensures.value c.in_ok-note_reached-2.ensures in
-    let after : (t : BoundTable) → Stand U E t c.args.start.now → Stand U E (rounds_within U E t (suc j)) bs =
+    let after : (t : BoundTable) → Stand U E t c.args.start.items → Stand U E (rounds_within U E t (suc j)) bs =
     λ t s. stand_as U E (next_within kind.Firing U E (rounds_within U E t j)) (rounds_within U E t (suc j)) bs
     (λ d l. refl) (r.round.next (rounds_within U E t j) (inv.after t s)) in
     record {
-      settling = subst (λ i. IsSettling U E c.args.start.now i T (with_items c.loop-rounds.settled ys).items)
+      settling = subst (λ i. IsSettling U E c.args.start.items i T (with_items c.loop-rounds.settled ys).items)
           (sym (add-one j)) (record {
             ready = r.ready;
             many = ap length e ∙ many;

@@ -5,7 +5,7 @@ use Rattle.settle_rounds.proofs.settling.settle_over.Given as goal
 
 abbrev pub invariant-loop-rounds : goal.invariant-loop-rounds
 invariant-loop-rounds l = record {
-  settling : IsSettling (unfolding_of l.program) l.envelope l.start l.rounds l.table l.settled.items;
+  settling : IsSettling (unfolding_of l.program) l.envelope l.fn.start.items l.rounds l.table l.settled.items;
   most : l.rounds ≤ l.cap;
 }
 

@@ -26,7 +26,7 @@ returns-then-not-grows-clause-grown c =
     let inv = c.loop-table.invariant in
     let j = c.loop-table.rounds in
     let r = c.in_ok-grows.ensures in
-    let full : (t : BoundTable) → Stand U E t c.args.first.now → IsFullWithin U E (grown_within U E t j) =
+    let full : (t : BoundTable) → Stand U E t c.args.first.items → IsFullWithin U E (grown_within U E t j) =
     λ t s. r.round.fixed c.if-not-grows.true (grown_within U E t j) (inv.stands t s) in
     record {
       fits = r.ready.fits;

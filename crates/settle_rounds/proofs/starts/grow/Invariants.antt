@@ -8,10 +8,10 @@ use Rattle.settle_rounds.proofs.starts.grow.Given as goal
 abbrev pub invariant-loop-table : goal.invariant-loop-table
 invariant-loop-table l = record {
   ready : IsReady kind.Growing (unfolding_of l.program) l.envelope l.table;
-  stands : (t : BoundTable) → Stand (unfolding_of l.program) l.envelope t l.first
+  stands : (t : BoundTable) → Stand (unfolding_of l.program) l.envelope t l.fn.first.items
       → Stand (unfolding_of l.program) l.envelope (grown_within (unfolding_of l.program) l.envelope t l.rounds)
       l.table.bounds.items;
-  before : (t : BoundTable) → Stand (unfolding_of l.program) l.envelope t l.first → (i : ℕ) → i < l.rounds
+  before : (t : BoundTable) → Stand (unfolding_of l.program) l.envelope t l.fn.first.items → (i : ℕ) → i < l.rounds
       → IsFullWithin (unfolding_of l.program) l.envelope (grown_within (unfolding_of l.program) l.envelope t i) → ⊥;
   most : l.rounds ≤ l.most;
 }

@@ -21,7 +21,7 @@ returns-in-Some c n e f =
     let E = c.args.envelope.now in
     let most : c.growing_cap-most.result ≡ growing_cap (length E.devices) = c.growing_cap-most.ensures.value
     ∙ ap growing_cap (sym (length-map c.devices.result.now maybe_device_of) ∙ ap length c.devices.ensures.value) in
-    let g = given (λ (v : Vec ExportBound Global). IsGrown U E c.growing_cap-most.result c.args.first.now v.items)
+    let g = given (λ (v : Vec ExportBound Global). IsGrown U E c.growing_cap-most.result c.args.first.items v.items)
     c.in_ok-grown.field-0 c.in-Some.grown c.in-Some.is c.in_ok-grown.ensures.grown in
     record {
       fits = g.fits;
