@@ -1,5 +1,5 @@
 -- What is said of one device more.
-use Rattle.std.proofs.Common.{◌≡◌, ℕ, suc, ◌<◌, List, [], ◌∷◌, ◌++◌, length, get_or, sym, ◌∙◌, subst, arith}
+use Rattle.std.proofs.Common.{◌≡◌, ℕ, suc, ◌<◌, List, [], ◌∷◌, ◌++◌, length, get_or, sym, ◌∙◌, ap, subst, arith}
 use Rattle.std.proofs.Common.{Bool, inl, inr}
 use Rattle.std.specs.declared.alloc.Global.{Global}
 use Rattle.std.specs.declared.vec.Vec.{Vec}
@@ -18,13 +18,14 @@ use Rattle.last_bounds.specs.References.{changes_in, IsMade, AreMade}
 module _ (E : Envelope) (firsts : List LocalBound) (bs : List FlatBound) (vs : List (Vec Change Global)) (n k : ℕ) where
   -- that of the device at a place, out of what stands there
   pub made_at : (d : ℕ) (sure : Bool) (s : LocalBound) (b : FlatBound) (v : Vec Change Global) (l : FlatLast)
-      → device_at E k ≡ d → sure ≡ surely_lives E (device_at E k) → k < length firsts → k < length bs → k < length vs
-      → IsMade d sure (local_bound_in (get_or firsts k s)) (local_bound_in (get_or bs k b).value)
-      (changes_in (get_or vs k v)) n l → (a : BoundValue) (e : FlatBound) (w : Vec Change Global)
+      → device_at E k ≡ d → sure ≡ surely_lives E (device_at E k) → s ≡ get_or firsts k s → k < length firsts
+      → k < length bs → k < length vs
+      → IsMade d sure (local_bound_in s) (local_bound_in (get_or bs k b).value) (changes_in (get_or vs k v)) n l
+      → (a : BoundValue) (e : FlatBound) (w : Vec Change Global)
       → IsMade (device_at E k) (surely_lives E (device_at E k)) (get_or (local_bounds_in firsts) k a)
       (local_bound_in (get_or bs k e).value) (changes_in (get_or vs k w)) n l
-  made_at d sure s b v l at live hs hb hv made a e w =
-      let first = sym (get_or-map local_bound_in firsts k s a hs) in
+  made_at d sure s b v l at live is hs hb hv made a e w =
+      let first = ap local_bound_in is ∙ sym (get_or-map local_bound_in firsts k s a hs) in
       let bound = get_or_default bs k b e hb in
       let change = get_or_default vs k v w hv in
       subst (λ z. IsMade (device_at E k) (surely_lives E (device_at E k)) (get_or (local_bounds_in firsts) k a)
@@ -33,9 +34,9 @@ module _ (E : Envelope) (firsts : List LocalBound) (bs : List FlatBound) (vs : L
       (get_or (local_bounds_in firsts) k a) (local_bound_in z.value) (changes_in (get_or vs k v)) n l) bound
       (subst (λ z. IsMade (device_at E k) (surely_lives E (device_at E k)) z
       (local_bound_in (get_or bs k b).value) (changes_in (get_or vs k v)) n l) first
-      (subst (λ z. IsMade (device_at E k) z (local_bound_in (get_or firsts k s))
-      (local_bound_in (get_or bs k b).value) (changes_in (get_or vs k v)) n l) live
-      (subst (λ z. IsMade z sure (local_bound_in (get_or firsts k s)) (local_bound_in (get_or bs k b).value)
+      (subst (λ z. IsMade (device_at E k) z (local_bound_in s) (local_bound_in (get_or bs k b).value)
+      (changes_in (get_or vs k v)) n l) live
+      (subst (λ z. IsMade z sure (local_bound_in s) (local_bound_in (get_or bs k b).value)
       (changes_in (get_or vs k v)) n l) (sym at) made))))
 
   pub made_more : (ls : List FlatLast) (x : FlatLast) → length ls ≡ k

@@ -27,14 +27,12 @@ loop-place-preserved c =
     let b = c.index-bounds-place.result in
     let v = c.index-changes-place.result in
     let l = c.in_ok-last_bound.field-0 in
-    let one : IsMade x.id x.sure (local_bound_in (get_or c.args.before.now k s))
-    (local_bound_in (get_or c.args.bounds.now k b).value) (map change_in c.deref.result.now) c.args.rounds l =
-    c.in_ok-last_bound.ensures in
+    let one : IsMade x.id x.sure (local_bound_in s) (local_bound_in (get_or c.args.bounds.now k b).value)
+    (map change_in c.deref.result.now) c.args.rounds l = c.in_ok-last_bound.ensures in
     let here = made_at E c.args.before.now c.args.bounds.now c.args.changes.now c.args.rounds k x.id x.sure s b v l at
-    sure (omega (arith, within, c.requires.before)) (omega (arith, within, c.requires.bounds))
-    (omega (arith, within, c.requires.changes)) (subst (λ cs. IsMade x.id x.sure
-    (local_bound_in (get_or c.args.before.now k s)) (local_bound_in (get_or c.args.bounds.now k b).value)
-    (map change_in cs) c.args.rounds l) (c.deref.ensures.value
+    sure c.index-before-place.is (omega (arith, within, c.requires.before)) (omega (arith, within, c.requires.bounds))
+    (omega (arith, within, c.requires.changes)) (subst (λ cs. IsMade x.id x.sure (local_bound_in s)
+    (local_bound_in (get_or c.args.bounds.now k b).value) (map change_in cs) c.args.rounds l) (c.deref.ensures.value
     ∙ ap (λ (w : Vec Change Global). w.items) c.index-changes-place.is) one) in
     record {
       many = ap length c.in_ok-push.ensures.items ∙ length_push c.loop-place.lasts.items c.in_ok-last_bound.field-0
