@@ -1,4 +1,4 @@
--- The least envelope within which a scene lies, and every network that lines of changes allow.
+-- The envelope of a scene and lines of changes: the scene lies within it, and every network that the lines allow.
 use Rattle.std.specs.Prelude.{ℕ, false, ◌≡◌, ◌≤◌, ◌&&◌, min, max, nat_eq, if◌then◌else◌}
 use Rattle.std.specs.Prelude.{List, [], ◌∷◌, length, Option, Some, None}
 use Rattle.topology.specs.declared.types.TheConstants.{MOST_DEVICES}

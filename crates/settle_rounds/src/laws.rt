@@ -39,7 +39,8 @@ pub fn bounds_hold_within()
     bounds_hold_within_from();
 }
 
-/// Where these bounds of a device leave one value, each export that it has after so many rounds has this value.
+/// Where the bounds of a device, counted from a closed table that holds the core, leave one value, each export that it
+/// has after so many rounds has this value.
 pub fn bounds_reach_within()
     ensures { BoundsReachWithin }
 {
@@ -82,7 +83,7 @@ pub fn lines_hold_anyhow()
     bounds_hold_within();
 }
 
-/// No export ever leaves the bounds from which the rounds of a core are counted.
+/// No exported value ever leaves the bounds from which the rounds of a core are counted.
 pub fn starts_stay()
     ensures { StartsStay }
 {
