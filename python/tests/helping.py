@@ -4,6 +4,7 @@ from __future__ import annotations
 
 import importlib.util
 import os
+import re
 import resource
 import shutil
 import subprocess
@@ -18,6 +19,7 @@ Test = TypeVar("Test", bound=Callable[..., Any])
 HERE = Path(__file__).resolve().parent
 TOP = HERE.parent.parent
 EXAMPLES = TOP / "examples"
+PATCHES = sorted((TOP / "docs" / "recipes").glob("*.patch"))
 FIXED_WORK = "sum(number * number % 7 for number in range(10_000_000))"
 BROWSERS = ("chromium", "chromium-browser", "google-chrome")
 
@@ -31,6 +33,16 @@ LINE = (
     '{"devices":[{"id":0,"inputs":{"src":true}},{"id":1,"inputs":{"src":false}},{"id":2,"inputs":{"src":false}}],'
     '"links":[[0,1,1],[1,2,1]]}\n'
 )
+
+
+def touched(patch: Path, before: str = "") -> list[str]:
+    """The files that a patch touches, from the top; those that it makes, where they are `/dev/null` before."""
+    return re.findall(rf"^--- .*{before}\n\+\+\+ b/(.+)$", patch.read_text(encoding="utf-8"), re.MULTILINE)
+
+
+def made_by_patches() -> frozenset[str]:
+    """The files that are there only with a patch of the recipes."""
+    return frozenset(file for patch in PATCHES for file in touched(patch, "/dev/null"))
 
 
 def missing_fc() -> str:

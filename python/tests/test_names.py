@@ -6,7 +6,8 @@ Which words are looked at, and where they have to stand:
 - a word of small letters with `_`, or of several capitalised parts (`same_branch`, `IsWellTyped`): it is a word of the
   crates, of the Python code or of another file that is read or run, or an edit's name.
 - a word with `/` or an ending of a file: that file, from the top, from the page, or in `crates/` or `python/tests`. A
-  file of `specs/`, `src/` or `proofs/` has to be in the crate of its row of a table, else in some crate.
+  file of `specs/`, `src/` or `proofs/` has to be in the crate of its row of a table, else in some crate. Words of
+  the patches in `docs/recipes`, and files that they make, are there too.
 - `./X`, `tools/X`, and commands of `fc` and `fieldc` with their options: that program, command and option.
 
 Words of the toolchain (`rt ci`), of programs of the language and of files that the reader makes aren't looked at.
@@ -22,7 +23,7 @@ from dataclasses import dataclass
 from functools import lru_cache
 from pathlib import Path
 
-from helping import TOP
+from helping import PATCHES, TOP, made_by_patches
 
 from making import lines
 
@@ -97,7 +98,7 @@ def words_of_sources() -> frozenset[str]:
     texts += [path.read_text() for folder in ("library", "examples") for path in (TOP / folder).glob("*.fc")]
     texts += [(TOP / name).read_text() for name in ("fc", "build", "test", "tools/wrong")]
     texts += [path.read_text() for path in (TOP / "embed").glob("*.mjs")]
-    texts += [path.stem for path in (TOP / "wrong").glob("*/*.edit")]
+    texts += [path.stem for path in (TOP / "wrong").glob("*/*.edit")] + [path.read_text() for path in PATCHES]
     return frozenset(word for text in texts for word in re.findall(r"\w+", text))
 
 
@@ -124,6 +125,8 @@ def missing_member(word: str) -> bool:
 
 def missing_file(one: Quoted, word: str) -> bool:
     """Whether a file isn't there; in one of the places from which pages name files."""
+    if any(f"/{file}".endswith(f"/{word}") for file in made_by_patches()):
+        return False
     if word.startswith(("specs/", "src/", "proofs/")):
         names = (one.crate,) if one.crate else crates()
         return not any(there(TOP / "crates" / name, word) for name in names)

@@ -18,7 +18,7 @@ import unittest
 from collections.abc import Mapping
 from pathlib import Path
 
-from helping import HOPS, LINE, TOP, needs, needs_fc
+from helping import HOPS, LINE, TOP, made_by_patches, needs, needs_fc
 
 import fieldc
 from fieldc import networks as network
@@ -233,7 +233,8 @@ class Specs(unittest.TestCase):
 
 class Words(unittest.TestCase):
     def test_pages_that_are_short(self) -> None:
-        for page, most in (("README.md", 900), ("docs/changes.md", 1500), ("docs/recipes/README.md", 500)):
+        recipes = [(f"docs/recipes/{name}.md", 500) for name in ("README", "builtin", "option", "command")]
+        for page, most in (("README.md", 900), ("docs/changes.md", 1500), *recipes):
             self.assertLessEqual(len((TOP / page).read_text().split()), most, page)
 
 
@@ -298,7 +299,7 @@ class Links(unittest.TestCase):
                     continue
                 with self.subTest(page=page.name, named=named):
                     places = (page.parent, TOP, TOP / "crates", TOP / "python/tests")
-                    self.assertTrue(any((place / named).exists() for place in places))
+                    self.assertTrue(named in made_by_patches() or any((place / named).exists() for place in places))
 
     def test_the_list_of_pages_is_whole(self) -> None:
         listed = set(re.findall(r"^\| \[([\w.]+\.md)\]", (TOP / "docs/README.md").read_text(), re.MULTILINE))
