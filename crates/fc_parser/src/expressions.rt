@@ -11,8 +11,9 @@ ghost use Rattle.fc_parser.specs.Expressions.{enclosed_with, expression_at, expr
 ghost use Rattle.fc_parser.specs.Expressions.{kinds_of, nested, operations_with, unary_with, word_with};
 
 use crate::forms::{
-    after_let, apply_two, arity, binder, builtin_of, copy_name, expect, expect_in, has_builtin,
-    make_choice, make_fold, make_nbr, mark, name, negate, nots, operator,
+    add, add_binding, after_let, apply_two, arity, binder, builtin_of, copy_name, expect,
+    expect_in, has_builtin, make_call, make_choice, make_fold, make_links, make_nbr, make_sense,
+    make_truth, make_uid, make_variable, mark, name, negate, nots, operator,
 };
 use crate::refused::Refused;
 use fc_lexer::{Kind, Mark, Token, Word};
@@ -66,7 +67,7 @@ fn expression_within<'a>(
         };
         let mut bound = Expr::Uid;
         let (name, next) = binding(alloc, second, left, after, &mut bound)?;
-        bindings.push((name, bound))?;
+        add_binding(&mut bindings, name, bound)?;
         rest = next;
     }
     Err(Refused::Outside)
@@ -207,11 +208,11 @@ fn named<'a>(
     match mark(tokens, Mark::OpenRound) {
         Some(rest) => {
             let (args, rest) = arguments(alloc, second, budget, rest)?;
-            *target = Expr::Call(copy_name(alloc, name)?, args);
+            make_call(alloc, name, args, target)?;
             Ok(rest)
         }
         None => {
-            *target = Expr::Var(copy_name(alloc, name)?);
+            make_variable(alloc, name, target)?;
             Ok(tokens)
         }
     }
@@ -234,24 +235,24 @@ fn word_form<'a>(
 {
     match word {
         Word::True => {
-            *target = Expr::Truth(true);
+            make_truth(true, target);
             Ok(tokens)
         }
         Word::False => {
-            *target = Expr::Truth(false);
+            make_truth(false, target);
             Ok(tokens)
         }
         Word::Uid => {
-            *target = Expr::Uid;
+            make_uid(target);
             Ok(tokens)
         }
         Word::NbrLink => {
-            *target = Expr::NbrLink;
+            make_links(target);
             Ok(tokens)
         }
         Word::Sense => {
             let (name, rest) = name(tokens)?;
-            *target = Expr::Sense(copy_name(alloc, name)?);
+            make_sense(alloc, name, target)?;
             Ok(rest)
         }
         Word::Nbr => {
@@ -316,7 +317,7 @@ fn arguments<'a>(
     }
     let mut first = Expr::Uid;
     let mut rest = expression_within(alloc, second, budget, tokens, &mut first)?;
-    args.push(first)?;
+    add(&mut args, first)?;
     let mut turns = rest.len();
     'turns: while turns > 0 {
         let Some(after) = mark(rest, Mark::Comma) else {
@@ -324,7 +325,7 @@ fn arguments<'a>(
         };
         let mut arg = Expr::Uid;
         rest = expression_within(alloc, second, budget, after, &mut arg)?;
-        args.push(arg)?;
+        add(&mut args, arg)?;
         turns -= 1;
     }
     let rest = expect(rest, Mark::CloseRound)?;

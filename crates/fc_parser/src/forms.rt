@@ -1,12 +1,14 @@
 //! Small functions that read and build the parts of expressions.
 
-ghost use Rattle.std.specs.Prelude.{◌≡◌, IfOk, OnOk, true, ◌+◌, ◌≤◌, length};
+ghost use Rattle.std.specs.Prelude.{◌≡◌, IfOk, OnOk, true, ◌+◌, ◌≤◌, length, map, [], ◌∷◌, ◌++◌};
 ghost use Rattle.fc_lexer.specs.Kinds.{kind_view};
 ghost use Rattle.fc_values.specs.BuiltinTypes.{arity as arity_of};
-ghost use Rattle.fc_syntax.specs.Terms.{ApplyTerm, IfTerm, NbrTerm, term_of};
+ghost use Rattle.fc_syntax.specs.Terms.{ApplyTerm, CallTerm, IfTerm, NbrLinkTerm, NbrTerm, SenseTerm};
+ghost use Rattle.fc_syntax.specs.Terms.{TruthTerm, UidTerm, VarTerm, term_of, terms};
 ghost use Rattle.fc_parser.specs.Expressions.{GivesAfter, GivesName, GivesOperator, GivesRest, after_nots};
-ghost use Rattle.fc_parser.specs.Expressions.{binder_read, count_nots, fold_term, has_builtin as has, in_read, kinds_of};
-ghost use Rattle.fc_parser.specs.Expressions.{let_read, mark_read, name_read, negated, not_read, operator_read};
+ghost use Rattle.fc_parser.specs.Expressions.{binder_read, count_nots, fold_term, has_builtin as has, in_read};
+ghost use Rattle.fc_parser.specs.Expressions.{kinds_of, let_read, mark_read, name_read, negated, not_read};
+ghost use Rattle.fc_parser.specs.Expressions.{operator_read};
 ghost use Rattle.fc_parser.specs.Grammar.{named, one, operator as operator_of_kind, two};
 
 use crate::refused::Refused;
@@ -273,7 +275,8 @@ pub fn make_fold(
     name: &Name,
     body: &mut Expr,
 ) -> Result<(), Memory>
-    ensures { OnOk result (term_of body.new ≡ fold_term shared (term_of first) name.now.text.items (term_of body.old)) }
+    ensures { OnOk result (term_of body.new ≡ fold_term shared (term_of first) name.now.text.items
+        (term_of body.old)) }
 {
     let name = copy_name(alloc, name)?;
     let first = Box::new(alloc, first)?;
@@ -301,5 +304,79 @@ pub fn make_choice(
     let other = Box::new(alloc, other)?;
     let boxed = Box::new(alloc, replace(condition, Expr::Uid))?;
     *condition = Expr::If(boxed, then, other);
+    Ok(())
+}
+
+/// Writes a truth value over an expression.
+#[inline(never)]
+pub fn make_truth(value: bool, target: &mut Expr)
+    ensures { term_of target.new ≡ TruthTerm value }
+{
+    *target = Expr::Truth(value);
+}
+
+/// Writes `uid` over an expression.
+#[inline(never)]
+pub fn make_uid(target: &mut Expr)
+    ensures { term_of target.new ≡ UidTerm }
+{
+    *target = Expr::Uid;
+}
+
+/// Writes `nbrLink` over an expression.
+#[inline(never)]
+pub fn make_links(target: &mut Expr)
+    ensures { term_of target.new ≡ NbrLinkTerm }
+{
+    *target = Expr::NbrLink;
+}
+
+/// Writes the reading of an input over an expression.
+#[inline(never)]
+pub fn make_sense(alloc: Global, name: &Name, target: &mut Expr) -> Result<(), Memory>
+    ensures { OnOk result (term_of target.new ≡ SenseTerm name.now.text.items) }
+{
+    *target = Expr::Sense(copy_name(alloc, name)?);
+    Ok(())
+}
+
+/// Writes a variable over an expression.
+#[inline(never)]
+pub fn make_variable(alloc: Global, name: &Name, target: &mut Expr) -> Result<(), Memory>
+    ensures { OnOk result (term_of target.new ≡ VarTerm name.now.text.items) }
+{
+    *target = Expr::Var(copy_name(alloc, name)?);
+    Ok(())
+}
+
+/// Writes a call over an expression.
+#[inline(never)]
+pub fn make_call(
+    alloc: Global,
+    name: &Name,
+    args: Vec<Expr>,
+    target: &mut Expr,
+) -> Result<(), Memory>
+    ensures { OnOk result (term_of target.new ≡ CallTerm name.now.text.items (terms (map term_of args.items))) }
+{
+    *target = Expr::Call(copy_name(alloc, name)?, args);
+    Ok(())
+}
+
+/// Adds an expression to others.
+#[inline(never)]
+pub fn add(args: &mut Vec<Expr>, arg: Expr) -> Result<(), Memory>
+    ensures { OnOk result (args.new.items ≡ args.old.items ++ (arg ∷ [])) }
+{
+    args.push(arg)?;
+    Ok(())
+}
+
+/// Adds a binding of a name to others.
+#[inline(never)]
+pub fn add_binding(bindings: &mut Vec<(Name, Expr)>, name: Name, bound: Expr) -> Result<(), Memory>
+    ensures { OnOk result (bindings.new.items ≡ bindings.old.items ++ ((name, bound) ∷ [])) }
+{
+    bindings.push((name, bound))?;
     Ok(())
 }

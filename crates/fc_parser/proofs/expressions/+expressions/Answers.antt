@@ -21,8 +21,8 @@ arguments-returns-in_err-rest t c =
 
 pub arguments-turns-init : goal.arguments-turns-init
 arguments-turns-init t c =
-    arguments_start (expression_at c.args.second c.args.budget) (kinds_of c.args.tokens.now) (term_of c.expression_within.new.target) (length c.in_ok-rest.rest.now) (map term_of c.push.new.self.items) (kinds_of c.in_ok-rest.rest.now)
-    c.in_default.ensures c.in_ok-rest.ensures (sym (kinds_length c.in_ok-rest.rest.now)) (pushed_first c.new-args.result.items c.push.new.self.items c.expression_within.new.target c.new-args.ensures.items c.in_ok-push.ensures.items)
+    arguments_start (expression_at c.args.second c.args.budget) (kinds_of c.args.tokens.now) (term_of c.expression_within.new.target) (length c.in_ok-rest.rest.now) (map term_of c.add.new.args.items) (kinds_of c.in_ok-rest.rest.now)
+    c.in_default.ensures c.in_ok-rest.ensures (sym (kinds_length c.in_ok-rest.rest.now)) (pushed_first c.new-args.result.items c.add.new.args.items c.expression_within.new.target c.new-args.ensures.items c.in_ok-add.ensures)
 
 pub arguments-returns-in_err-rest-2 : goal.arguments-returns-in_err-rest-2
 arguments-returns-in_err-rest-2 t c =
@@ -35,8 +35,8 @@ pub arguments-turns-preserved : goal.arguments-turns-preserved
 arguments-turns-preserved t c =
     let inner = expression_at c.args.second c.args.budget in
     let arg = c.expression_within-in-turns.new.target in
-    arguments_more inner c.turns.turns (map term_of c.turns.args.items) (map term_of c.push-in-turns.new.self.items) (term_of arg) (kinds_of c.turns.rest.now) (kinds_of c.in-Some-mark.after.now) (kinds_of c.in_ok-rest-2.rest.now) tt
-    (arguments_with inner (kinds_of c.args.tokens.now)) c.turns.invariant (omega arith) c.in-Some-mark.ensures c.in_ok-rest-2.ensures (pushed c.turns.args.items c.push-in-turns.new.self.items arg c.in_ok-push-2.ensures.items)
+    arguments_more inner c.turns.turns (map term_of c.turns.args.items) (map term_of c.add-in-turns.new.args.items) (term_of arg) (kinds_of c.turns.rest.now) (kinds_of c.in-Some-mark.after.now) (kinds_of c.in_ok-rest-2.rest.now) tt
+    (arguments_with inner (kinds_of c.args.tokens.now)) c.turns.invariant (omega arith) c.in-Some-mark.ensures c.in_ok-rest-2.ensures (pushed c.turns.args.items c.add-in-turns.new.args.items arg c.in_ok-add-2.ensures)
 
 pub arguments-returns-in_err-rest-3 : goal.arguments-returns-in_err-rest-3
 arguments-returns-in_err-rest-3 t c =
@@ -97,8 +97,8 @@ pub expression_within-bindings-preserved : goal.expression_within-bindings-prese
 expression_within-bindings-preserved t c = record {
   within = omega (arith, c.bindings.invariant.within);
   same =
-      within_more c.args.second c.bindings.left c.bindings.bindings.items c.push.new.self.items (c.in_ok-name.name, c.binding.new.target) (kinds_of c.bindings.rest.now) (kinds_of c.in-Some.after.now) (kinds_of c.in_ok-name.next.now) tt
-      (expression_at c.args.second c.args.budget (kinds_of c.args.tokens.now)) c.bindings.invariant.same (omega arith) c.in-Some.ensures c.in_ok-name.ensures c.in_ok-push.ensures.items;
+      within_more c.args.second c.bindings.left c.bindings.bindings.items c.add_binding.new.bindings.items (c.in_ok-name.name, c.binding.new.target) (kinds_of c.bindings.rest.now) (kinds_of c.in-Some.after.now) (kinds_of c.in_ok-name.next.now) tt
+      (expression_at c.args.second c.args.budget (kinds_of c.args.tokens.now)) c.bindings.invariant.same (omega arith) c.in-Some.ensures c.in_ok-name.ensures c.in_ok-add_binding.ensures;
 }
 
 pub expression_within-returns : goal.expression_within-returns
