@@ -2,6 +2,7 @@
 
 from __future__ import annotations
 
+import re
 from collections.abc import Iterator
 from dataclasses import dataclass
 
@@ -120,7 +121,28 @@ def uncalled() -> Iterator[tuple[str, str]]:
         yield f"{name}, too many nodes", f"{START}main = {body};\n"
 
 
+def tokens(text: str) -> int:
+    """How many tokens a text has."""
+    return len(re.findall(r"\w+|=>|[^\w\s]", text))
+
+
+def mixed() -> Iterator[tuple[str, str]]:
+    """Operators of each strength within one another, with brackets, `if` or `let`, in a function that isn't called."""
+    most = MOST_BRACKETS - 3
+    for name, text, has_let_around in (
+        ("brackets", "(E)", False),
+        ("if", "if (true) {1} {E}", False),
+        ("let", "(let x = E in x)", False),
+        ("brackets in let", "(E)", True),
+    ):
+        body = Form(name, f"0 or 0 and 0 = 0 + 0 * {text}", 0).around("1", most)
+        if has_let_around:
+            room = MOST_TOKENS - tokens(f"def f(): int = {body};")
+            body = Form("let", "let x = E in x", 0).around(body, room // tokens("let x = in x"))
+        yield f"operators and {name}, {most} in a function", f"{START}def f(): int = {body};\nmain = 1;\n"
+
+
 def programs() -> dict[str, str]:
     """All of them by name."""
-    kinds = (within_functions, with_far_names, with_arguments, uncalled)
+    kinds = (within_functions, with_far_names, with_arguments, uncalled, mixed)
     return {name: text for made in kinds for name, text in made()}

@@ -20,7 +20,7 @@ use Rattle.fc_syntax.specs.Printable.{count}
 use Rattle.fc_syntax.specs.Terms.{SourceTerm, ApplyTerm, LetTerm, SourceTerms, NoTerms, MoreTerms, term_of, term_step, terms}
 use Rattle.fc_parser.specs.Grammar.{two}
 use Rattle.fc_parser.specs.Reading.{Read, Got, Not, ◌>>=◌, Reader}
-use Rattle.fc_parser.specs.Expressions.{kinds_of, if_got, nested, mark_read, let_read, not_read, operator_read, count_nots, after_nots, more_with, arguments_with, has_builtin, applied, builtin_with, atom_with, unary_with, chain_with, turns, level_with, operations_with, binding_with, expression_with, expression_at, GivesExpression, GivesArguments, GivesBinding, GivesRest}
+use Rattle.fc_parser.specs.Expressions.{kinds_of, if_got, nested, mark_read, let_read, not_read, operator_read, count_nots, after_nots, more_with, arguments_with, has_builtin, applied, builtin_with, atom_with, unary_with, chain_with, turns, level_with, operations_with, binding_with, expression_with, expression_at, GivesExpression, GivesArguments, GivesRest, WritesBinding, WritesExpression}
 use Rattle.fc_parser.specs.declared.refused.Refused.{Refused}
 use Rattle.fc_parser.specs.declared.refused.Refused.TheVariants as refused
 use Rattle.fc_parser.proofs.ExpressionComplete.{level_step, unary_step}
@@ -86,25 +86,29 @@ terms_count [] = refl
 terms_count (x ∷ xs) = omega (arith, terms_count xs)
 
 -- a part that isn't read
-pub passes : (e : Refused) (part whole : Read SourceTerm) → GivesExpression (Err e) part → (part ≡ Not → whole ≡ Not) → GivesExpression (Err e) whole
-passes refused.Outside part whole g h = h g
-passes refused.Memory part whole g h = tt
+pub passes : (e : Refused) (p q : Expr) (part whole : Read SourceTerm) → WritesExpression (Err e) p part → (part ≡ Not → whole ≡ Not) → WritesExpression (Err e) q whole
+passes refused.Outside p q part whole g h = h g
+passes refused.Memory p q part whole g h = tt
 
-pub passes_binding : (e : Refused) (part : Read (List ℕ × SourceTerm)) (whole : Read SourceTerm) → GivesBinding (Err e) part → (part ≡ Not → whole ≡ Not) → GivesExpression (Err e) whole
-passes_binding refused.Outside part whole g h = h g
-passes_binding refused.Memory part whole g h = tt
+pub passes_binding : (e : Refused) (p q : Expr) (part : Read (List ℕ × SourceTerm)) (whole : Read SourceTerm) → WritesBinding (Err e) p part → (part ≡ Not → whole ≡ Not) → WritesExpression (Err e) q whole
+passes_binding refused.Outside p q part whole g h = h g
+passes_binding refused.Memory p q part whole g h = tt
 
-pub passes_argument : (e : Refused) (part : Read SourceTerm) (whole : Read SourceTerms) → GivesExpression (Err e) part → (part ≡ Not → whole ≡ Not) → GivesArguments (Err e) whole
-passes_argument refused.Outside part whole g h = h g
-passes_argument refused.Memory part whole g h = tt
+pub passes_argument : (e : Refused) (p : Expr) (part : Read SourceTerm) (whole : Read SourceTerms) → WritesExpression (Err e) p part → (part ≡ Not → whole ≡ Not) → GivesArguments (Err e) whole
+passes_argument refused.Outside p part whole g h = h g
+passes_argument refused.Memory p part whole g h = tt
+
+pub passes_whole : (e : Refused) (p : Expr) (part whole : Read SourceTerm) → WritesExpression (Err e) p part → part ≡ whole → GivesExpression (Err e) whole
+passes_whole refused.Outside p part whole g h = sym h ∙ g
+passes_whole refused.Memory p part whole g h = tt
 
 pub passes_rest : (e : Refused) (part : Read (Unit {0})) (whole : Read SourceTerms) → GivesRest (Err e) part → (part ≡ Not → whole ≡ Not) → GivesArguments (Err e) whole
 passes_rest refused.Outside part whole g h = h g.0
 passes_rest refused.Memory part whole g h = tt
 
 -- a result of a part that is the whole
-pub read_as : (result : Result (Expr × Bor (List Token)) Refused) (part whole : Read SourceTerm) → part ≡ whole → GivesExpression result part → GivesExpression result whole
-read_as result part whole e g = subst (GivesExpression result) e g
+pub read_as : (result : Result (Bor (List Token)) Refused) (p : Expr) (part whole : Read SourceTerm) → part ≡ whole → WritesExpression result p part → WritesExpression result p whole
+read_as result p part whole e g = subst (WritesExpression result p) e g
 
 -- one expression more
 pub pushed : (xs ys : List Expr) (e : Expr) → ys ≡ xs ++ (e ∷ []) → map term_of ys ≡ map term_of xs ++ (term_of e ∷ [])

@@ -281,10 +281,16 @@ GivesArguments (Ok x) read = read ≡ Got (terms (map term_of x.0.items)) (kinds
 GivesArguments (Err refused.Outside) read = read ≡ Not
 GivesArguments (Err refused.Memory) read = Unit {0}
 
-abbrev pub GivesBinding : Result ((Name × Expr) × Bor (List Token)) Refused → Read (List ℕ × SourceTerm) → Type 0
-GivesBinding (Ok x) read = read ≡ Got (x.0.0.text.items, term_of x.0.1) (kinds_of x.1.now)
-GivesBinding (Err refused.Outside) read = read ≡ Not
-GivesBinding (Err refused.Memory) read = Unit {0}
+-- the same where what is read is written into a place
+abbrev pub WritesExpression : Result (Bor (List Token)) Refused → Expr → Read SourceTerm → Type 0
+WritesExpression (Ok rest) e read = read ≡ Got (term_of e) (kinds_of rest.now)
+WritesExpression (Err refused.Outside) e read = read ≡ Not
+WritesExpression (Err refused.Memory) e read = Unit {0}
+
+abbrev pub WritesBinding : Result (Name × Bor (List Token)) Refused → Expr → Read (List ℕ × SourceTerm) → Type 0
+WritesBinding (Ok x) e read = read ≡ Got (x.0.text.items, term_of e) (kinds_of x.1.now)
+WritesBinding (Err refused.Outside) e read = read ≡ Not
+WritesBinding (Err refused.Memory) e read = Unit {0}
 
 -- the same where nothing takes memory
 abbrev pub GivesName : Result (Bor Name × Bor (List Token)) Refused → Read (List ℕ) → Type 0

@@ -1,24 +1,26 @@
 //! Reading an expression.
 
-ghost use Rattle.std.specs.Prelude.{◌≡◌, ◌+◌, ◌<◌, ◌≤◌, ◌^◌, length, IfOk};
+ghost use Rattle.std.specs.Prelude.{◌≡◌, ◌+◌, ◌<◌, ◌≤◌, ◌^◌, length, OnOk};
 ghost use Rattle.fc_lexer.specs.Kinds.{tokens_of};
 ghost use Rattle.fc_syntax.specs.Terms.{term_of};
 ghost use Rattle.fc_parser.specs.Programs.{kinds};
-ghost use Rattle.fc_parser.specs.Expressions.{GivesArguments, GivesBinding, GivesExpression, arguments_with};
-ghost use Rattle.fc_parser.specs.Expressions.{atom_with, binding_with, bracketed_with, builtin_with, chain_with};
-ghost use Rattle.fc_parser.specs.Expressions.{choice_with, named_with};
+ghost use Rattle.fc_parser.specs.Expressions.{GivesArguments, GivesExpression, arguments_with};
+ghost use Rattle.fc_parser.specs.Expressions.{atom_with, binding_with, bracketed_with, builtin_with};
+ghost use Rattle.fc_parser.specs.Expressions.{WritesBinding, WritesExpression, choice_with, named_with};
 ghost use Rattle.fc_parser.specs.Expressions.{enclosed_with, expression_at, expression_read, fold_with};
 ghost use Rattle.fc_parser.specs.Expressions.{kinds_of, nested, operations_with, unary_with, word_with};
 
 use crate::forms::{
-    after_let, apply_two, arity, binder, builtin_of, copy_name, expect, expect_in, has_builtin,
-    mark, name, negate, nots, operator,
+    add, add_binding, after_let, apply_two, arity, binder, builtin_of, copy_name, expect,
+    expect_in, has_builtin, make_call, make_choice, make_fold, make_links, make_nbr, make_sense,
+    make_truth, make_uid, make_variable, mark, name, negate, nots, operator,
 };
 use crate::refused::Refused;
 use fc_lexer::{Kind, Mark, Token, Word};
 use fc_syntax::Expr;
 use fc_values::{Builtin, GREATEST, Memory, Name};
 use std::alloc::Global;
+use std::mem::replace;
 
 // The strength of a comparison.
 const COMPARISON: u32 = 3;
@@ -35,19 +37,23 @@ pub fn expression<'a>(
     requires { length tokens.now < 2 ^ 32 }
     ensures { GivesExpression result (expression_read second (kinds (tokens_of tokens.now))) }
 {
-    expression_within(alloc, second, tokens.len() + 1, tokens)
+    let mut whole = Expr::Uid;
+    let rest = expression_within(alloc, second, tokens.len() + 1, tokens, &mut whole)?;
+    Ok((whole, rest))
 }
 
-// An expression, in which fewer expressions than the budget are nested in one another. What `let` binds and its body
-// count as nested in it.
+// Writes an expression over another, in which fewer expressions than the budget are nested in one another. What `let`
+// binds and its body count as nested in it. There may be hundreds of brackets around it: each function writes what it
+// reads into the place where it will stand, and so takes little of the stack.
 #[cycle(expressions)]
 fn expression_within<'a>(
     alloc: Global,
     second: bool,
     budget: usize,
     tokens: &'a [Token],
-) -> Result<(Expr, &'a [Token]), Refused>
-    ensures { GivesExpression result (expression_at second budget (kinds_of tokens.now)) }
+    target: &mut Expr,
+) -> Result<&'a [Token], Refused>
+    ensures { WritesExpression result target.new (expression_at second budget (kinds_of tokens.now)) }
 {
     let mut left = budget;
     let mut rest = tokens;
@@ -55,11 +61,13 @@ fn expression_within<'a>(
     'bindings: while left > 0 {
         left -= 1;
         let Some(after) = after_let(rest) else {
-            let (body, rest) = operations(alloc, second, left, 1, rest)?;
-            return Ok((bind_all(alloc, bindings, body)?, rest));
+            let rest = operations(alloc, second, left, 1, rest, target)?;
+            bind_all(alloc, bindings, target)?;
+            return Ok(rest);
         };
-        let (bound, next) = binding(alloc, second, left, after)?;
-        bindings.push(bound)?;
+        let mut bound = Expr::Uid;
+        let (name, next) = binding(alloc, second, left, after, &mut bound)?;
+        add_binding(&mut bindings, name, bound)?;
         rest = next;
     }
     Err(Refused::Outside)
@@ -74,26 +82,28 @@ fn binding<'a>(
     second: bool,
     budget: usize,
     tokens: &'a [Token],
-) -> Result<((Name, Expr), &'a [Token]), Refused>
-    ensures { GivesBinding result (binding_with (expression_at second budget) (kinds_of tokens.now)) }
+    target: &mut Expr,
+) -> Result<(Name, &'a [Token]), Refused>
+    ensures { WritesBinding result target.new (binding_with (expression_at second budget) (kinds_of tokens.now)) }
 {
     let (name, rest) = name(tokens)?;
     let rest = expect(rest, Mark::Is)?;
-    let (bound, rest) = expression_within(alloc, second, budget, rest)?;
+    let rest = expression_within(alloc, second, budget, rest, target)?;
     let rest = expect_in(rest)?;
-    Ok(((copy_name(alloc, name)?, bound), rest))
+    Ok((copy_name(alloc, name)?, rest))
 }
 
-// A body behind these bindings.
+// Puts a body behind these bindings.
 #[inline(never)]
-fn bind_all(alloc: Global, mut bindings: Vec<(Name, Expr)>, body: Expr) -> Result<Expr, Memory>
-    ensures { IfOk result (λ e. term_of e ≡ nested bindings.items (term_of body)) }
+fn bind_all(alloc: Global, mut bindings: Vec<(Name, Expr)>, body: &mut Expr) -> Result<(), Memory>
+    ensures { OnOk result (term_of body.new ≡ nested bindings.items (term_of body.old)) }
 {
-    let mut whole = body;
+    let mut whole = replace(body, Expr::Uid);
     'bindings: while let Some((name, bound)) = bindings.pop() {
         whole = Expr::Let(name, Box::new(alloc, bound)?, Box::new(alloc, whole)?);
     }
-    Ok(whole)
+    *body = whole;
+    Ok(())
 }
 
 // An expression at a place that asks this strength. A comparison stands alone, and other operators follow one another.
@@ -104,53 +114,31 @@ fn operations<'a>(
     budget: usize,
     strength: u32,
     tokens: &'a [Token],
-) -> Result<(Expr, &'a [Token]), Refused>
+    target: &mut Expr,
+) -> Result<&'a [Token], Refused>
     requires { strength ≤ 6 }
-    ensures { GivesExpression result
+    ensures { WritesExpression result target.new
         (operations_with (atom_with second (expression_at second budget)) strength (kinds_of tokens.now)) }
 {
     if strength == NOT {
-        return unary(alloc, second, budget, tokens);
+        return unary(alloc, second, budget, tokens, target);
     }
-    let (first, rest) = operations(alloc, second, budget, strength + 1, tokens)?;
-    let turns = if strength == COMPARISON {
+    let mut rest = operations(alloc, second, budget, strength + 1, tokens, target)?;
+    let mut turns = if strength == COMPARISON {
         1
     } else {
         rest.len()
     };
-    chain(alloc, second, budget, strength, turns, first, rest)
-}
-
-// At most so many operators of a strength, each with its right operand, behind what stands left of them.
-#[cycle(expressions)]
-#[inline(never)]
-fn chain<'a>(
-    alloc: Global,
-    second: bool,
-    budget: usize,
-    strength: u32,
-    most: usize,
-    first: Expr,
-    tokens: &'a [Token],
-) -> Result<(Expr, &'a [Token]), Refused>
-    requires { strength ≤ 5 }
-    ensures { GivesExpression result
-        (chain_with strength (operations_with (atom_with second (expression_at second budget)) (strength + 1)) most
-        (term_of first) (kinds_of tokens.now)) }
-{
-    let mut left = first;
-    let mut rest = tokens;
-    let mut turns = most;
     'turns: while turns > 0 {
         let Some((builtin, after)) = operator(rest, strength) else {
-            return Ok((left, rest));
+            return Ok(rest);
         };
-        let (right, next) = operations(alloc, second, budget, strength + 1, after)?;
-        left = apply_two(alloc, builtin, left, right)?;
-        rest = next;
+        let mut right = Expr::Uid;
+        rest = operations(alloc, second, budget, strength + 1, after, &mut right)?;
+        apply_two(alloc, builtin, target, right)?;
         turns -= 1;
     }
-    Ok((left, rest))
+    Ok(rest)
 }
 
 // `{ not } atom`
@@ -162,13 +150,15 @@ fn unary<'a>(
     second: bool,
     budget: usize,
     tokens: &'a [Token],
-) -> Result<(Expr, &'a [Token]), Refused>
-    ensures { GivesExpression result
+    target: &mut Expr,
+) -> Result<&'a [Token], Refused>
+    ensures { WritesExpression result target.new
         (unary_with (atom_with second (expression_at second budget)) (kinds_of tokens.now)) }
 {
     let (many, rest) = nots(tokens);
-    let (operand, rest) = atom(alloc, second, budget, rest)?;
-    Ok((negate(alloc, operand, many)?, rest))
+    let rest = atom(alloc, second, budget, rest, target)?;
+    negate(alloc, target, many)?;
+    Ok(rest)
 }
 
 // An atom.
@@ -180,17 +170,22 @@ fn atom<'a>(
     second: bool,
     budget: usize,
     tokens: &'a [Token],
-) -> Result<(Expr, &'a [Token]), Refused>
-    ensures { GivesExpression result (atom_with second (expression_at second budget) (kinds_of tokens.now)) }
+    target: &mut Expr,
+) -> Result<&'a [Token], Refused>
+    ensures { WritesExpression result target.new
+        (atom_with second (expression_at second budget) (kinds_of tokens.now)) }
 {
     let [first, rest @ ..] = tokens else {
         return Err(Refused::Outside);
     };
     match &first.kind {
-        Kind::Number(n) if *n <= GREATEST => Ok((Expr::Int(*n), rest)),
-        Kind::Word(word) => word_form(alloc, second, budget, *word, rest),
-        Kind::Name(name) => named(alloc, second, budget, name, rest),
-        Kind::Mark(Mark::OpenRound) => bracketed(alloc, second, budget, rest),
+        Kind::Number(n) if *n <= GREATEST => {
+            *target = Expr::Int(*n);
+            Ok(rest)
+        }
+        Kind::Word(word) => word_form(alloc, second, budget, *word, rest, target),
+        Kind::Name(name) => named(alloc, second, budget, name, rest, target),
+        Kind::Mark(Mark::OpenRound) => bracketed(alloc, second, budget, rest, target),
         _ => Err(Refused::Outside),
     }
 }
@@ -205,16 +200,21 @@ fn named<'a>(
     budget: usize,
     name: &Name,
     tokens: &'a [Token],
-) -> Result<(Expr, &'a [Token]), Refused>
-    ensures { GivesExpression result
+    target: &mut Expr,
+) -> Result<&'a [Token], Refused>
+    ensures { WritesExpression result target.new
         (named_with (expression_at second budget) name.now.text.items (kinds_of tokens.now)) }
 {
     match mark(tokens, Mark::OpenRound) {
         Some(rest) => {
             let (args, rest) = arguments(alloc, second, budget, rest)?;
-            Ok((Expr::Call(copy_name(alloc, name)?, args), rest))
+            make_call(alloc, name, args, target)?;
+            Ok(rest)
         }
-        None => Ok((Expr::Var(copy_name(alloc, name)?), tokens)),
+        None => {
+            make_variable(alloc, name, target)?;
+            Ok(tokens)
+        }
     }
 }
 
@@ -228,33 +228,44 @@ fn word_form<'a>(
     budget: usize,
     word: Word,
     tokens: &'a [Token],
-) -> Result<(Expr, &'a [Token]), Refused>
-    ensures { GivesExpression result (word_with second (expression_at second budget) word (kinds_of tokens.now)) }
+    target: &mut Expr,
+) -> Result<&'a [Token], Refused>
+    ensures { WritesExpression result target.new
+        (word_with second (expression_at second budget) word (kinds_of tokens.now)) }
 {
     match word {
-        Word::True => Ok((Expr::Truth(true), tokens)),
-        Word::False => Ok((Expr::Truth(false), tokens)),
-        Word::Uid => Ok((Expr::Uid, tokens)),
-        Word::NbrLink => Ok((Expr::NbrLink, tokens)),
+        Word::True => {
+            make_truth(true, target);
+            Ok(tokens)
+        }
+        Word::False => {
+            make_truth(false, target);
+            Ok(tokens)
+        }
+        Word::Uid => {
+            make_uid(target);
+            Ok(tokens)
+        }
+        Word::NbrLink => {
+            make_links(target);
+            Ok(tokens)
+        }
         Word::Sense => {
             let (name, rest) = name(tokens)?;
-            Ok((Expr::Sense(copy_name(alloc, name)?), rest))
+            make_sense(alloc, name, target)?;
+            Ok(rest)
         }
         Word::Nbr => {
-            let (inner, rest) = enclosed(
-                alloc,
-                second,
-                budget,
-                (Mark::OpenCurly, Mark::CloseCurly),
-                tokens,
-            )?;
-            Ok((Expr::Nbr(Box::new(alloc, inner)?), rest))
+            let marks = (Mark::OpenCurly, Mark::CloseCurly);
+            let rest = enclosed(alloc, second, budget, marks, tokens, target)?;
+            make_nbr(alloc, target)?;
+            Ok(rest)
         }
-        Word::Rep => fold(alloc, second, budget, false, tokens),
-        Word::Share if second => fold(alloc, second, budget, true, tokens),
+        Word::Rep => fold(alloc, second, budget, false, tokens, target),
+        Word::Share if second => fold(alloc, second, budget, true, tokens, target),
         Word::Share => Err(Refused::Outside),
-        Word::If => choice(alloc, second, budget, tokens),
-        _ => builtin(alloc, second, budget, builtin_of(word), tokens),
+        Word::If => choice(alloc, second, budget, tokens, target),
+        _ => builtin(alloc, second, budget, builtin_of(word), tokens, target),
     }
 }
 
@@ -268,8 +279,10 @@ fn builtin<'a>(
     budget: usize,
     word: Option<Builtin>,
     tokens: &'a [Token],
-) -> Result<(Expr, &'a [Token]), Refused>
-    ensures { GivesExpression result (builtin_with second (expression_at second budget) word (kinds_of tokens.now)) }
+    target: &mut Expr,
+) -> Result<&'a [Token], Refused>
+    ensures { WritesExpression result target.new
+        (builtin_with second (expression_at second budget) word (kinds_of tokens.now)) }
 {
     let Some(builtin) = word else {
         return Err(Refused::Outside);
@@ -280,7 +293,8 @@ fn builtin<'a>(
     let rest = expect(tokens, Mark::OpenRound)?;
     let (args, rest) = arguments(alloc, second, budget, rest)?;
     if args.len() == arity(builtin) {
-        Ok((Expr::Apply(builtin, args), rest))
+        *target = Expr::Apply(builtin, args);
+        Ok(rest)
     } else {
         Err(Refused::Outside)
     }
@@ -301,16 +315,17 @@ fn arguments<'a>(
     if let Some(rest) = mark(tokens, Mark::CloseRound) {
         return Ok((args, rest));
     }
-    let (first, mut rest) = expression_within(alloc, second, budget, tokens)?;
-    args.push(first)?;
+    let mut first = Expr::Uid;
+    let mut rest = expression_within(alloc, second, budget, tokens, &mut first)?;
+    add(&mut args, first)?;
     let mut turns = rest.len();
     'turns: while turns > 0 {
         let Some(after) = mark(rest, Mark::Comma) else {
             break;
         };
-        let (arg, next) = expression_within(alloc, second, budget, after)?;
-        args.push(arg)?;
-        rest = next;
+        let mut arg = Expr::Uid;
+        rest = expression_within(alloc, second, budget, after, &mut arg)?;
+        add(&mut args, arg)?;
         turns -= 1;
     }
     let rest = expect(rest, Mark::CloseRound)?;
@@ -327,28 +342,19 @@ fn fold<'a>(
     budget: usize,
     shared: bool,
     tokens: &'a [Token],
-) -> Result<(Expr, &'a [Token]), Refused>
-    ensures { GivesExpression result (fold_with shared (expression_at second budget) (kinds_of tokens.now)) }
+    target: &mut Expr,
+) -> Result<&'a [Token], Refused>
+    ensures { WritesExpression result target.new
+        (fold_with shared (expression_at second budget) (kinds_of tokens.now)) }
 {
-    let (first, rest) = enclosed(
-        alloc,
-        second,
-        budget,
-        (Mark::OpenRound, Mark::CloseRound),
-        tokens,
-    )?;
+    let marks = (Mark::OpenRound, Mark::CloseRound);
+    let mut first = Expr::Uid;
+    let rest = enclosed(alloc, second, budget, marks, tokens, &mut first)?;
     let (name, rest) = binder(rest)?;
-    let (body, rest) = expression_within(alloc, second, budget, rest)?;
+    let rest = expression_within(alloc, second, budget, rest, target)?;
     let rest = expect(rest, Mark::CloseCurly)?;
-    let name = copy_name(alloc, name)?;
-    let first = Box::new(alloc, first)?;
-    let body = Box::new(alloc, body)?;
-    let whole = if shared {
-        Expr::Share(first, name, body)
-    } else {
-        Expr::Rep(first, name, body)
-    };
-    Ok((whole, rest))
+    make_fold(alloc, shared, first, name, target)?;
+    Ok(rest)
 }
 
 // `( expr ) { expr } { expr }`
@@ -360,34 +366,19 @@ fn choice<'a>(
     second: bool,
     budget: usize,
     tokens: &'a [Token],
-) -> Result<(Expr, &'a [Token]), Refused>
-    ensures { GivesExpression result (choice_with (expression_at second budget) (kinds_of tokens.now)) }
+    target: &mut Expr,
+) -> Result<&'a [Token], Refused>
+    ensures { WritesExpression result target.new (choice_with (expression_at second budget) (kinds_of tokens.now)) }
 {
-    let (condition, rest) = enclosed(
-        alloc,
-        second,
-        budget,
-        (Mark::OpenRound, Mark::CloseRound),
-        tokens,
-    )?;
-    let (then, rest) = enclosed(
-        alloc,
-        second,
-        budget,
-        (Mark::OpenCurly, Mark::CloseCurly),
-        rest,
-    )?;
-    let (other, rest) = enclosed(
-        alloc,
-        second,
-        budget,
-        (Mark::OpenCurly, Mark::CloseCurly),
-        rest,
-    )?;
-    let condition = Box::new(alloc, condition)?;
-    let then = Box::new(alloc, then)?;
-    let other = Box::new(alloc, other)?;
-    Ok((Expr::If(condition, then, other), rest))
+    let round = (Mark::OpenRound, Mark::CloseRound);
+    let curly = (Mark::OpenCurly, Mark::CloseCurly);
+    let mut then = Expr::Uid;
+    let mut other = Expr::Uid;
+    let rest = enclosed(alloc, second, budget, round, tokens, target)?;
+    let rest = enclosed(alloc, second, budget, curly, rest, &mut then)?;
+    let rest = enclosed(alloc, second, budget, curly, rest, &mut other)?;
+    make_choice(alloc, target, then, other)?;
+    Ok(rest)
 }
 
 // `expr )` or `expr , expr )`
@@ -399,17 +390,20 @@ fn bracketed<'a>(
     second: bool,
     budget: usize,
     tokens: &'a [Token],
-) -> Result<(Expr, &'a [Token]), Refused>
-    ensures { GivesExpression result (bracketed_with (expression_at second budget) (kinds_of tokens.now)) }
+    target: &mut Expr,
+) -> Result<&'a [Token], Refused>
+    ensures { WritesExpression result target.new (bracketed_with (expression_at second budget) (kinds_of tokens.now)) }
 {
-    let (first, rest) = expression_within(alloc, second, budget, tokens)?;
+    let rest = expression_within(alloc, second, budget, tokens, target)?;
     match mark(rest, Mark::Comma) {
         Some(after) => {
-            let (other, rest) = expression_within(alloc, second, budget, after)?;
+            let mut other = Expr::Uid;
+            let rest = expression_within(alloc, second, budget, after, &mut other)?;
             let rest = expect(rest, Mark::CloseRound)?;
-            Ok((apply_two(alloc, Builtin::Pair, first, other)?, rest))
+            apply_two(alloc, Builtin::Pair, target, other)?;
+            Ok(rest)
         }
-        None => Ok((first, expect(rest, Mark::CloseRound)?)),
+        None => expect(rest, Mark::CloseRound),
     }
 }
 
@@ -423,12 +417,12 @@ fn enclosed<'a>(
     budget: usize,
     marks: (Mark, Mark),
     tokens: &'a [Token],
-) -> Result<(Expr, &'a [Token]), Refused>
-    ensures { GivesExpression result
+    target: &mut Expr,
+) -> Result<&'a [Token], Refused>
+    ensures { WritesExpression result target.new
         (enclosed_with marks.0 marks.1 (expression_at second budget) (kinds_of tokens.now)) }
 {
     let rest = expect(tokens, marks.0)?;
-    let (inner, rest) = expression_within(alloc, second, budget, rest)?;
-    let rest = expect(rest, marks.1)?;
-    Ok((inner, rest))
+    let rest = expression_within(alloc, second, budget, rest, target)?;
+    expect(rest, marks.1)
 }

@@ -1,12 +1,14 @@
 //! Small functions that read and build the parts of expressions.
 
-ghost use Rattle.std.specs.Prelude.{◌≡◌, IfOk, true, ◌+◌, ◌≤◌, length};
+ghost use Rattle.std.specs.Prelude.{◌≡◌, IfOk, OnOk, true, ◌+◌, ◌≤◌, length, map, [], ◌∷◌, ◌++◌};
 ghost use Rattle.fc_lexer.specs.Kinds.{kind_view};
 ghost use Rattle.fc_values.specs.BuiltinTypes.{arity as arity_of};
-ghost use Rattle.fc_syntax.specs.Terms.{ApplyTerm, term_of};
+ghost use Rattle.fc_syntax.specs.Terms.{ApplyTerm, CallTerm, IfTerm, NbrLinkTerm, NbrTerm, SenseTerm};
+ghost use Rattle.fc_syntax.specs.Terms.{TruthTerm, UidTerm, VarTerm, term_of, terms};
 ghost use Rattle.fc_parser.specs.Expressions.{GivesAfter, GivesName, GivesOperator, GivesRest, after_nots};
-ghost use Rattle.fc_parser.specs.Expressions.{binder_read, count_nots, has_builtin as has, in_read, kinds_of};
-ghost use Rattle.fc_parser.specs.Expressions.{let_read, mark_read, name_read, negated, not_read, operator_read};
+ghost use Rattle.fc_parser.specs.Expressions.{binder_read, count_nots, fold_term, has_builtin as has, in_read};
+ghost use Rattle.fc_parser.specs.Expressions.{kinds_of, let_read, mark_read, name_read, negated, not_read};
+ghost use Rattle.fc_parser.specs.Expressions.{operator_read};
 ghost use Rattle.fc_parser.specs.Grammar.{named, one, operator as operator_of_kind, two};
 
 use crate::refused::Refused;
@@ -14,6 +16,7 @@ use fc_lexer::{Kind, Mark, Token, Word};
 use fc_syntax::{Expr, builtin_strength};
 use fc_values::{Builtin, Memory, Name};
 use std::alloc::Global;
+use std::mem::replace;
 
 /// What follows this mark, if it stands in front.
 #[tactic(auto, unfolding(crate::specs::Expressions::mark_read))]
@@ -222,27 +225,158 @@ pub fn copy_name(alloc: Global, name: &Name) -> Result<Name, Memory>
     })
 }
 
-/// A builtin of two operands.
+/// Makes an operand the left one of a builtin, of which this is the right one.
 #[inline(never)]
-pub fn apply_two(alloc: Global, builtin: Builtin, left: Expr, right: Expr) -> Result<Expr, Memory>
-    ensures { IfOk result (λ e. term_of e ≡ ApplyTerm builtin (two (term_of left) (term_of right))) }
+pub fn apply_two(
+    alloc: Global,
+    builtin: Builtin,
+    left: &mut Expr,
+    right: Expr,
+) -> Result<(), Memory>
+    ensures { OnOk result (term_of left.new ≡ ApplyTerm builtin (two (term_of left.old) (term_of right))) }
 {
     let mut args = Vec::new(alloc);
-    args.push(left)?;
+    args.push(replace(left, Expr::Uid))?;
     args.push(right)?;
-    Ok(Expr::Apply(builtin, args))
+    *left = Expr::Apply(builtin, args);
+    Ok(())
 }
 
-/// An operand with `many` times `not` before it.
+/// Puts `many` times `not` before an operand.
 #[inline(never)]
-pub fn negate(alloc: Global, operand: Expr, many: usize) -> Result<Expr, Memory>
-    ensures { IfOk result (λ e. term_of e ≡ negated many (term_of operand)) }
+pub fn negate(alloc: Global, operand: &mut Expr, many: usize) -> Result<(), Memory>
+    ensures { OnOk result (term_of operand.new ≡ negated many (term_of operand.old)) }
 {
-    let mut whole = operand;
+    let mut whole = replace(operand, Expr::Uid);
     for _ in 0..many {
         let mut args = Vec::new(alloc);
         args.push(whole)?;
         whole = Expr::Apply(Builtin::Not, args);
     }
-    Ok(whole)
+    *operand = whole;
+    Ok(())
+}
+
+/// Puts an expression into `nbr`.
+#[inline(never)]
+pub fn make_nbr(alloc: Global, inner: &mut Expr) -> Result<(), Memory>
+    ensures { OnOk result (term_of inner.new ≡ NbrTerm (term_of inner.old)) }
+{
+    *inner = Expr::Nbr(Box::new(alloc, replace(inner, Expr::Uid))?);
+    Ok(())
+}
+
+/// Makes a body that of `share` or `rep`, from its first value and the name that it binds.
+#[inline(never)]
+pub fn make_fold(
+    alloc: Global,
+    shared: bool,
+    first: Expr,
+    name: &Name,
+    body: &mut Expr,
+) -> Result<(), Memory>
+    ensures { OnOk result (term_of body.new ≡ fold_term shared (term_of first) name.now.text.items
+        (term_of body.old)) }
+{
+    let name = copy_name(alloc, name)?;
+    let first = Box::new(alloc, first)?;
+    let boxed = Box::new(alloc, replace(body, Expr::Uid))?;
+    *body = if shared {
+        Expr::Share(first, name, boxed)
+    } else {
+        Expr::Rep(first, name, boxed)
+    };
+    Ok(())
+}
+
+/// Makes a condition that of `if`, from its branches.
+#[inline(never)]
+pub fn make_choice(
+    alloc: Global,
+    condition: &mut Expr,
+    then: Expr,
+    other: Expr,
+) -> Result<(), Memory>
+    ensures { OnOk result (term_of condition.new
+        ≡ IfTerm (term_of condition.old) (term_of then) (term_of other)) }
+{
+    let then = Box::new(alloc, then)?;
+    let other = Box::new(alloc, other)?;
+    let boxed = Box::new(alloc, replace(condition, Expr::Uid))?;
+    *condition = Expr::If(boxed, then, other);
+    Ok(())
+}
+
+/// Writes a truth value over an expression.
+#[inline(never)]
+pub fn make_truth(value: bool, target: &mut Expr)
+    ensures { term_of target.new ≡ TruthTerm value }
+{
+    *target = Expr::Truth(value);
+}
+
+/// Writes `uid` over an expression.
+#[inline(never)]
+pub fn make_uid(target: &mut Expr)
+    ensures { term_of target.new ≡ UidTerm }
+{
+    *target = Expr::Uid;
+}
+
+/// Writes `nbrLink` over an expression.
+#[inline(never)]
+pub fn make_links(target: &mut Expr)
+    ensures { term_of target.new ≡ NbrLinkTerm }
+{
+    *target = Expr::NbrLink;
+}
+
+/// Writes the reading of an input over an expression.
+#[inline(never)]
+pub fn make_sense(alloc: Global, name: &Name, target: &mut Expr) -> Result<(), Memory>
+    ensures { OnOk result (term_of target.new ≡ SenseTerm name.now.text.items) }
+{
+    *target = Expr::Sense(copy_name(alloc, name)?);
+    Ok(())
+}
+
+/// Writes a variable over an expression.
+#[inline(never)]
+pub fn make_variable(alloc: Global, name: &Name, target: &mut Expr) -> Result<(), Memory>
+    ensures { OnOk result (term_of target.new ≡ VarTerm name.now.text.items) }
+{
+    *target = Expr::Var(copy_name(alloc, name)?);
+    Ok(())
+}
+
+/// Writes a call over an expression.
+#[inline(never)]
+pub fn make_call(
+    alloc: Global,
+    name: &Name,
+    args: Vec<Expr>,
+    target: &mut Expr,
+) -> Result<(), Memory>
+    ensures { OnOk result (term_of target.new ≡ CallTerm name.now.text.items (terms (map term_of args.items))) }
+{
+    *target = Expr::Call(copy_name(alloc, name)?, args);
+    Ok(())
+}
+
+/// Adds an expression to others.
+#[inline(never)]
+pub fn add(args: &mut Vec<Expr>, arg: Expr) -> Result<(), Memory>
+    ensures { OnOk result (args.new.items ≡ args.old.items ++ (arg ∷ [])) }
+{
+    args.push(arg)?;
+    Ok(())
+}
+
+/// Adds a binding of a name to others.
+#[inline(never)]
+pub fn add_binding(bindings: &mut Vec<(Name, Expr)>, name: Name, bound: Expr) -> Result<(), Memory>
+    ensures { OnOk result (bindings.new.items ≡ bindings.old.items ++ ((name, bound) ∷ [])) }
+{
+    bindings.push((name, bound))?;
+    Ok(())
 }

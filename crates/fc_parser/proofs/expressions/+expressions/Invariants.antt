@@ -43,10 +43,7 @@ abbrev pub decreases-unary : goal.decreases-unary
 decreases-unary l = 20 * l.budget + 5
 
 abbrev pub decreases-operations : goal.decreases-operations
-decreases-operations l = 20 * l.budget + (18 - 2 * l.strength)
-
-abbrev pub decreases-chain : goal.decreases-chain
-decreases-chain l = 20 * l.budget + (17 - 2 * l.strength)
+decreases-operations l = 20 * l.budget + (12 - l.strength)
 
 abbrev pub invariant-arguments-turns : goal.invariant-arguments-turns
 invariant-arguments-turns l =
@@ -65,10 +62,10 @@ invariant-expression_within-bindings l = record {
 abbrev pub decreases-expression_within-bindings : goal.decreases-expression_within-bindings
 decreases-expression_within-bindings l = l.left
 
-abbrev pub invariant-chain-turns : goal.invariant-chain-turns
-invariant-chain-turns l =
-    chain_with l.strength (operations_with (atom_with l.second (expression_at l.second l.budget)) (l.strength + 1)) l.turns (term_of l.left) (kinds_of l.rest)
-    ≡ chain_with l.strength (operations_with (atom_with l.second (expression_at l.second l.budget)) (l.strength + 1)) l.most (term_of l.fn.first) (kinds_of l.fn.tokens)
+abbrev pub invariant-operations-turns : goal.invariant-operations-turns
+invariant-operations-turns l =
+    chain_with l.strength (operations_with (atom_with l.second (expression_at l.second l.budget)) (l.strength + 1)) l.turns (term_of l.target) (kinds_of l.rest)
+    ≡ operations_with (atom_with l.second (expression_at l.second l.budget)) l.strength (kinds_of l.fn.tokens)
 
-abbrev pub decreases-chain-turns : goal.decreases-chain-turns
-decreases-chain-turns l = l.turns
+abbrev pub decreases-operations-turns : goal.decreases-operations-turns
+decreases-operations-turns l = l.turns
