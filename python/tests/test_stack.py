@@ -77,6 +77,7 @@ class Stack(unittest.TestCase):
         )
         statuses = {answer("check", text + NETWORK)[0] for text in deep.values()}
         self.assertLessEqual(statuses, {0, 1, 3, 4})
+        self.assertEqual({answer("format", text)[0] for text in deep.values()}, {0})
 
     def test_without_a_deep_program(self) -> None:
         self.answered(
