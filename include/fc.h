@@ -31,14 +31,14 @@ enum fc_status {
  * - Each pointer is to as many bytes as its length says. With length 0 it may be NULL.
  * - The room and *needed can be written, and overlap nothing else of the call.
  * - No other thread touches any of them during the call.
- * - FC_STACK bytes of stack are left. Nothing proves this number: the deepest programs take less.
+ * - FC_STACK bytes of stack are left. Nothing proves this number: the deepest programs take less than 1.25 MiB.
  *
  * Calls of several threads may overlap. The call is not for a signal handler, nor for the forked child of a process
  * with threads. What it allocates, by malloc, it has freed when it returns. */
 uint32_t fc_reply(const uint8_t *words, size_t words_length, const uint8_t *input, size_t input_length, uint8_t *room,
                   size_t room_length, size_t *needed);
 
-#define FC_STACK (1u << 20)
+#define FC_STACK (2u << 20)
 
 /* Beside it, and not proved: the same with the text in memory of its own. */
 struct fc_answer {

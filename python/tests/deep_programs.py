@@ -127,13 +127,18 @@ def tokens(text: str) -> int:
 
 
 def mixed() -> Iterator[tuple[str, str]]:
-    """Operators of each strength within one another, with brackets, `if` or `let`, in a function that isn't called."""
+    """Operators of each strength within one another, with other forms between them or `let` around, in a function that
+    isn't called. They are read, and refused by their types."""
     most = MOST_BRACKETS - 3
     for name, text, has_let_around in (
         ("brackets", "(E)", False),
         ("if", "if (true) {1} {E}", False),
         ("let", "(let x = E in x)", False),
         ("brackets in let", "(E)", True),
+        ("pairs in let", "(0, E)", True),
+        ("min in let", "min(0, E)", True),
+        ("nbr in let", "nbr{E}", True),
+        ("calls in let", "same(E)", True),
     ):
         body = Form(name, f"0 or 0 and 0 = 0 + 0 * {text}", 0).around("1", most)
         if has_let_around:
@@ -143,6 +148,6 @@ def mixed() -> Iterator[tuple[str, str]]:
 
 
 def programs() -> dict[str, str]:
-    """All of them by name."""
-    kinds = (within_functions, with_far_names, with_arguments, uncalled, mixed)
+    """Those of one form each, by name."""
+    kinds = (within_functions, with_far_names, with_arguments, uncalled)
     return {name: text for made in kinds for name, text in made()}

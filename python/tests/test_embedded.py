@@ -25,8 +25,9 @@ from release import library, module
 
 THREADED = {"run", "gen"}
 THREADS = 4
-# what fc.h says that a call may take, with what the thread itself takes
-STACK = 4 << 10
+# of a thread, in KiB: FC_STACK of fc.h; and of node
+STACK = 2 << 10
+STACK_OF_NODE = 4 << 10
 # what fc writes of examples/hop_count_line.txt, which README.md reads aloud
 SETTLES = "yes 22\nsettles 5\n0 1 0\n1 3 1\n2 5 2\n"
 IN_CPP = """\
@@ -170,7 +171,7 @@ class Embedded(unittest.TestCase):
         file = self.folder / "cases.json"
         file.write_text(json.dumps(rows))
         shutil.copy(module.MADE, self.folder / "fc.wasm")
-        node = ("node", f"--stack-size={STACK}", HERE / "module_cases.mjs", library.EMBED / "fc.mjs")
+        node = ("node", f"--stack-size={STACK_OF_NODE}", HERE / "module_cases.mjs", library.EMBED / "fc.mjs")
         said = self.done(*node, self.folder / "fc.wasm", file)
         self.assertEqual(said.splitlines()[-1], f"{len(rows)} passed, 0 failed")
 

@@ -9,13 +9,14 @@ import subprocess
 import unittest
 from concurrent.futures import ThreadPoolExecutor
 
-from deep_programs import programs
+from deep_programs import mixed, programs
 from helping import TOP, needs_fc
 
 from fieldc import program as fc
 
-# of each thread, in KiB, as `ulimit -s` has it
-STACK = 1024
+# of each thread, in KiB, as `ulimit -s` has it: what the pages ask for, and what is enough for programs of one form
+STACK = 1280
+ENOUGH = 1024
 PAGES = ("README.md", "docs/headline.md", "docs/commands.md")
 NETWORK = '%%\n{"devices":[{"id":0,"inputs":{}},{"id":1,"inputs":{}}],"links":[[0,1,1]]}\n'
 LOG = "%%\nB0\nE0\nB1\nE1\n"
@@ -52,39 +53,46 @@ def answer(words: str, text: str, stack: int | None = None) -> tuple[int, bytes]
     return done.returncode, done.stdout
 
 
-def differs(words: str, text: str) -> bool:
-    """Whether a call answers otherwise with little stack than with much, or not at all."""
+def differs(words: str, text: str, stack: int) -> bool:
+    """Whether a call answers otherwise with so little stack than with much, or not at all."""
     status, output = answer(words, text)
-    return status < 0 or answer(words, text, STACK) != (status, output)
+    return status < 0 or answer(words, text, stack) != (status, output)
 
 
 @needs_fc
 class Stack(unittest.TestCase):
-    def answered(self, calls: dict[str, tuple[str, str]]) -> None:
-        """Wants each of some calls answered alike with much stack and with little."""
+    def answered(self, calls: dict[str, tuple[str, str]], stack: int) -> None:
+        """Wants each of some calls answered alike with much stack and with so little."""
         with ThreadPoolExecutor(os.cpu_count()) as pool:
-            found = pool.map(lambda call: differs(*call), calls.values())
+            found = pool.map(lambda call: differs(*call, stack), calls.values())
             self.assertEqual([name for name, is_other in zip(calls, found, strict=True) if is_other], [])
 
-    def test_the_deepest_programs(self) -> None:
-        deep = programs()
+    def with_all_commands(self, deep: dict[str, str], stack: int, statuses: set[int]) -> None:
+        """Wants each of some programs answered by every command, by `check` with one of these statuses."""
         self.answered(
             {
                 f"fc {words}: {name}": (words, text + sections)
                 for name, text in deep.items()
                 for words, sections in COMMANDS.items()
-            }
+            },
+            stack,
         )
-        statuses = {answer("check", text + NETWORK)[0] for text in deep.values()}
-        self.assertLessEqual(statuses, {0, 1, 3, 4})
+        self.assertLessEqual({answer("check", text + NETWORK)[0] for text in deep.values()}, statuses)
         self.assertEqual({answer("format", text)[0] for text in deep.values()}, {0})
+
+    def test_the_deepest_programs(self) -> None:
+        self.with_all_commands(programs(), ENOUGH, {0, 1, 4})
+
+    def test_mixed_forms(self) -> None:
+        self.with_all_commands(dict(mixed()), STACK, {3})
 
     def test_without_a_deep_program(self) -> None:
         self.answered(
             {
                 "gen": ("gen 7 --devices 512 --workers 16", ""),
                 "a nested scene": ("check", f"{SIMPLE}%%\n{NESTED}\n"),
-            }
+            },
+            ENOUGH,
         )
 
     def test_pages(self) -> None:
