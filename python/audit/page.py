@@ -16,7 +16,8 @@ TITLE = """\
 # The audit
 
 What to read to believe what `fc` promises, by file and lines. `docs/headline.md` says the promises in words. \
-`tools/audit` makes this page from the definitions as they stand, and the gate fails if the page isn't what the tool makes.
+`tools/audit` makes this page from the definitions as they stand, and the gate fails if the page isn't what the tool \
+makes.
 
 **In an hour** one reads *How it is written*, *From the clause to the rules* and section 1. These are {hour} lines of \
 definitions, which lead from the clause of `fc` to the rules by which a device evaluates, and say all that a yes \

@@ -64,7 +64,7 @@ class Stack(unittest.TestCase):
     def answered(self, calls: dict[str, tuple[str, str]], stack: int) -> None:
         """Wants each of some calls answered alike with much stack and with so little."""
         with ThreadPoolExecutor(os.cpu_count()) as pool:
-            found = pool.map(lambda call: differs(*call, stack), calls.values())
+            found = pool.map(lambda call: differs(call[0], call[1], stack), calls.values())
             self.assertEqual([name for name, is_other in zip(calls, found, strict=True) if is_other], [])
 
     def with_all_commands(self, deep: dict[str, str], stack: int, statuses: set[int]) -> None:
