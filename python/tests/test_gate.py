@@ -21,6 +21,9 @@ from gate.stages import Counts
 SOURCE = """\
 //! A crate.
 use other::Thing;
+ghost use Std.specs.Prelude.{◌≡◌, ◌∷◌, ⊤};
+ghost use Low.specs.Laws.{Proved,
+    Holds as Law};
 pub use inner::Part;
 
 /// A pair.
@@ -72,6 +75,9 @@ pub fn public_law()
 }
 """
 SEEN = """\
+ghost use Std.specs.Prelude.◌≡◌
+ghost use Std.specs.Prelude.⊤
+ghost use Low.specs.Laws.Holds as Law
 pub use inner::Part;
 pub struct Pair {
     left: u32,
@@ -121,6 +127,12 @@ def runner() -> ModuleType:
 class Sums(unittest.TestCase):
     def test_public_lines_are_those_on_which_others_lean(self) -> None:
         self.assertEqual("\n".join(checksums.public_lines(SOURCE)) + "\n", SEEN)
+
+    def test_functions_of_a_private_module_are_seen_where_they_are_given_out(self) -> None:
+        with_law = checksums.public_lines(SOURCE, {"public_law"}.__contains__)
+        self.assertEqual("\n".join(with_law) + "\n", SEEN)
+        without = checksums.public_lines(SOURCE, {"add"}.__contains__)
+        self.assertEqual(without, [line for line in with_law if "aw" not in line and line != "{"])
 
     def test_every_public_function_of_the_crates_is_seen(self) -> None:
         texts = [path.read_text() for path in TOP.glob("crates/*/src/**/*.rt")]
