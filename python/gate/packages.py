@@ -26,16 +26,22 @@ def is_installed(package: str) -> bool:
     return done.stdout == "installed"
 
 
-def install() -> None:
-    """Installs what is missing, where this is root. Raises Missing."""
-    missing = [package for package in wanted() if not is_installed(package)]
-    if not missing:
+def missing() -> list[str]:
+    """Those that aren't installed. Raises Missing if they can't be installed either, as this isn't root."""
+    found = [package for package in wanted() if not is_installed(package)]
+    if found and os.geteuid():
+        raise Missing(f"packages are missing: apt-get install {' '.join(found)}")
+    return found
+
+
+def install(packages: list[str]) -> None:
+    """Installs packages, if there are any. Raises Missing, with what `apt-get` said."""
+    if not packages:
         return
-    names = " ".join(missing)
-    if os.geteuid():
-        raise Missing(f"packages are missing: apt-get install {names}")
-    print(f"test: installs {names}", flush=True)
+    names = " ".join(packages)
     environment = dict(os.environ, DEBIAN_FRONTEND="noninteractive")
-    for words in (["update"], ["install", "--yes", "--no-install-recommends", *missing]):
-        if subprocess.run(["apt-get", "--quiet=2", *words], env=environment, check=False).returncode:
-            raise Missing(f"apt-get {words[0]} failed; packages are missing: {names}")
+    for words in (["update"], ["install", "--yes", "--no-install-recommends", *packages]):
+        apt_get = ["apt-get", "--quiet=2", *words]
+        done = subprocess.run(apt_get, env=environment, capture_output=True, text=True, check=False)
+        if done.returncode:
+            raise Missing(f"apt-get {words[0]} failed; packages are missing: {names}\n{done.stdout}{done.stderr}")

@@ -236,7 +236,9 @@ class Stages(unittest.TestCase):
         with mock.patch.object(packages, "is_installed", lambda name: name != "python3-lark"):
             with mock.patch("os.geteuid", lambda: 1000):
                 with self.assertRaisesRegex(packages.Missing, "install python3-lark$"):
-                    packages.install()
+                    packages.missing()
+            with mock.patch("os.geteuid", lambda: 0):
+                self.assertEqual(packages.missing(), ["python3-lark"])
 
 
 class Conformance(unittest.TestCase):
