@@ -24,7 +24,7 @@ CONFORMANCE = TOP / "conformance/run.py"
 COUNTS = re.compile(r"(\d+) passed, (\d+) failed")
 SAMPLE = 12
 # the tests of the library and of the page, of which ./test has the toolchain build what they want
-OF_LIBRARY = ("test_embedded", "test_page")
+OF_LIBRARY = ("test_embedded", "test_page", "test_page_changes", "test_page_looks")
 # the modules that take longest, which begin first
 LONG = (*OF_LIBRARY, "test_sweep", "test_blocks", "test_pages", "test_picture", "test_stable_in_time")
 

@@ -6,10 +6,14 @@ import json
 import os
 import subprocess
 import tempfile
+import time
 import unittest
+from collections.abc import Iterator
+from contextlib import contextmanager
 from pathlib import Path
 
 from browsing import Browser
+from helping import fixed_work
 
 from release import module, page
 
@@ -21,6 +25,19 @@ TEXTS = """
 """
 SHORT = {"true": "T", "false": "F"}
 HERE_STAY = ("file:", "blob:", "data:", "about:")
+# within these the largest network is answered, where nothing else runs
+SECONDS = 10
+# and for so many milliseconds at most nothing moves meanwhile
+STILL = 1000
+GAPS = """
+    window.gap = 0; let before = performance.now();
+    setInterval(() => { const now = performance.now(); gap = Math.max(gap, now - before); before = now; }, 10); 1
+"""
+BY_METRES = """\
+ceiling 200; input src: bool; metric 1..60;
+main = rep(200){(d) => minHoodLoc(nbr{d} + nbrLink, mux(sense src, 0, 200))};
+"""
+FAR_HOPS = "ceiling 200; input src: bool;\nmain = rep(200){(d) => minHoodLoc(nbr{d} + 1, mux(sense src, 0, 200))};\n"
 
 
 def answer(words: str, text: str) -> tuple[int, str]:
@@ -131,6 +148,27 @@ class Opened(unittest.TestCase):
         self.browser.value("document.getElementById('program').select()")
         self.browser.type(text)
         self.settled()
+
+    def make_largest(self) -> None:
+        """Has the largest network made."""
+        self.browser.value("document.getElementById('making').open = true")
+        self.browser.value("document.getElementById('count').select()")
+        self.browser.type("1024")
+        self.browser.click_on("#make button")
+
+    @contextmanager
+    def in_time(self) -> Iterator[None]:
+        """Fails if what is done takes too long, or leaves the page still for too long. A busy machine has longer."""
+        start = time.monotonic()
+        fixed_work()
+        # about 1 where nothing else runs
+        busy = max(1.0, time.monotonic() - start)
+        self.browser.value(GAPS)
+        start = time.monotonic()
+        yield
+        took, gap = time.monotonic() - start, self.browser.value("gap")
+        self.assertLess(took, SECONDS * busy, f"{took:.1f} s, and {busy:.1f} s for the fixed work")
+        self.assertLess(gap, STILL * busy, f"{gap:.0f} ms, and {busy:.1f} s for the fixed work")
 
     def input(self) -> str:
         """The program, the network and what may change as an input of fc, as the page saves it."""

@@ -5,40 +5,24 @@ from __future__ import annotations
 
 import base64
 import json
-import os
 import re
 import subprocess
-import time
 import unittest
-from dataclasses import replace
 from typing import Any
 
-import bounds_of_fc
-import test_changes
 import test_stack
 import wrong_inputs
 from browsing import CONTROL, SHIFT
 from deep_programs import programs
-from helping import EXAMPLES, HERE, TOP, fixed_work
-from opened_page import ANSWERED, Opened, answer
+from helping import EXAMPLES, HERE
+from opened_page import ANSWERED, BY_METRES, FAR_HOPS, Opened, answer
 from test_embedded import Given, read_cases
 
-from fieldc import Section, networks as network
-from fieldc.changes import written_out
+from fieldc import networks as network
 from release import page
 
-# within these the largest network is answered, where nothing else runs
-SECONDS = 10
-# and for so many milliseconds at most nothing moves meanwhile
-STILL = 1000
-# so many lines has a module of the page at most
-MOST_LINES = 400
 # conformance cases with more bytes than this may take more stack than a worker has
 LONG = 8000
-GAPS = """
-    window.gap = 0; let before = performance.now();
-    setInterval(() => { const now = performance.now(); gap = Math.max(gap, now - before); before = now; }, 10); 1
-"""
 CASES = """(async () => {{
     const differing = [];
     for (const {{words, input, status, text}} of {rows}) {{
@@ -52,11 +36,6 @@ CASES = """(async () => {{
 SECTION = page.BLOCKS.read_text().partition("\n## The blocks\n")[2].partition("\n## ")[0]
 EMPTY = "Yes \u00b7 the network is empty"
 OF_RUN = "document.getElementById('round-out').textContent.split(' of ')[1]"
-BY_METRES = """\
-ceiling 200; input src: bool; metric 1..60;
-main = rep(200){(d) => minHoodLoc(nbr{d} + nbrLink, mux(sense src, 0, 200))};
-"""
-FAR_HOPS = "ceiling 200; input src: bool;\nmain = rep(200){(d) => minHoodLoc(nbr{d} + 1, mux(sense src, 0, 200))};\n"
 
 
 class Program(Opened):
@@ -404,23 +383,14 @@ class Network(Opened):
             self.assertEqual(self.count(), (14, 25))
 
     def test_the_largest_network(self) -> None:
-        start = time.monotonic()
-        fixed_work()
-        # about 1 where nothing else runs, and more on a busy machine
-        busy = max(1.0, time.monotonic() - start)
-        self.browser.value(GAPS)
         self.write(FAR_HOPS)
-        self.browser.value("document.getElementById('making').open = true")
-        self.browser.value("document.getElementById('count').select()")
-        self.browser.type("1024")
-        self.browser.click_on("#make button")
-        took = self.browser.until("document.querySelectorAll('.device').length === 1024") + self.browser.until(
-            f"{ANSWERED} && document.getElementById('size').textContent.startsWith('1,024') && "
-            "document.querySelector('.device .value').textContent !== ''"
-        )
-        gap = self.browser.value("gap")
-        self.assertLess(took, SECONDS * busy, f"{took:.1f} s, and {busy:.1f} s for the fixed work")
-        self.assertLess(gap, STILL * busy, f"{gap:.0f} ms, and {busy:.1f} s for the fixed work")
+        with self.in_time():
+            self.make_largest()
+            self.browser.until("document.querySelectorAll('.device').length === 1024")
+            self.browser.until(
+                f"{ANSWERED} && document.getElementById('size').textContent.startsWith('1,024') && "
+                "document.querySelector('.device .value').textContent !== ''"
+            )
         self.is_as_program()
 
 
@@ -576,367 +546,6 @@ class Answers(Opened):
         self.browser.until("document.getElementById('brief').textContent === 'The verdict alone'")
         self.assertRegex(self.of("verdict"), "^Yes: it settles after 1 round.*too little stack.*newer browser")
         self.assertTrue(self.browser.value("document.getElementById('run').disabled"))
-
-
-class Changes(Opened):
-    def test_of_a_device(self) -> None:
-        self.browser.click(*self.place(12))
-        self.press_in("inspector", "may leave")
-        self.assertEqual(self.lines(), ["leave 12"])
-        self.is_as_program()
-        for text in ("src may change", "all its links may go"):
-            self.press_in("inspector", text)
-        self.assertEqual(self.lines(), ["leave 12", "set 12 src any", "unlink 12"])
-        self.is_as_program()
-        self.press_in("inspector", "may leave")
-        self.assertEqual(self.lines(), ["set 12 src any", "unlink 12"])
-        self.press_in("changing", "Remove all lines")
-        self.assertEqual(self.lines(), [])
-        self.assertEqual(self.numbers()[12], "5")
-        self.assertTrue(self.browser.value("document.querySelector('input[value=values]').checked"))
-
-    def test_a_device_that_may_come(self) -> None:
-        self.browser.click(*self.place(6))
-        self.press_in("inspector", "another may come beside it")
-        self.assertEqual(self.lines(), ["join 14 any", "link 6 14 1"])
-        self.is_as_program()
-        self.assertIn("13 of 15 devices keep one value", self.of("verdict"))
-        self.browser.drag(self.place(14), self.place(3))
-        self.browser.click(*self.place(14))
-        self.assertIn("Device 14, which may come", self.of("inspector"))
-        while_it_changes = r"^Device 14 may come; while the network changes: \d+..10 whenever it is there$"
-        self.assertRegex(self.of("told"), while_it_changes)
-        self.tool("link")
-        self.browser.drag(self.place(14), self.place(3))
-        self.settled()
-        self.assertEqual(self.lines(), ["join 14 any", "link 6 14 1", "link 3 14 1"])
-        self.is_as_program()
-        self.tool("remove")
-        self.browser.click(*self.place(14))
-        self.settled()
-        self.assertEqual(self.lines(), [])
-        self.is_as_program()
-        self.browser.click_on("#undo")
-        self.settled()
-        self.assertEqual(len(self.lines()), 3)
-        self.is_as_program()
-
-    def between(self, a: int, b: int) -> tuple[float, float]:
-        """The middle of a link."""
-        (x, y), (u, v) = self.place(a), self.place(b)
-        return (x + u) / 2, (y + v) / 2
-
-    def test_of_a_link(self) -> None:
-        self.write(BY_METRES)
-        self.browser.click(*self.between(4, 9))
-        self.press_in("inspector", "may go")
-        self.press_in("inspector", "its weight may change")
-        self.assertEqual(self.lines(), ["unlink 4 9", "link 4 9 any"])
-        self.is_as_program()
-        for end, number in (("least", "17"), ("greatest", "25")):
-            self.browser.click_on(f"[aria-label='{end} weight of the link 4 to 9']")
-            self.browser.value("document.activeElement.select()")
-            self.browser.type(number)
-            self.browser.press("Enter")
-            self.settled()
-        self.assertEqual(self.lines(), ["unlink 4 9", "link 4 9 17..25"])
-        written = self.browser.value("[...document.querySelectorAll('.weights text')].map((one) => one.textContent)")
-        self.assertIn("17..25", written)
-        self.assertEqual(self.browser.value("document.querySelector('.may-go').getAttribute('d')").count("M"), 1)
-        self.is_as_program()
-
-    def test_a_link_that_may_come(self) -> None:
-        self.tool("maybe")
-        self.browser.click(*self.place(0))
-        self.browser.click(*self.place(3))
-        self.settled()
-        self.assertEqual(self.lines(), ["link 0 3 1"])
-        self.is_as_program()
-        self.browser.value("document.getElementById('drawing').focus()")
-        for key in ("ArrowRight", "Enter", "ArrowUp", "ArrowLeft", "ArrowLeft", "ArrowLeft", "Enter"):
-            self.browser.press(key)
-        self.settled()
-        self.assertEqual(len(self.lines()), 2)
-        self.is_as_program()
-        self.tool("move")
-        self.browser.click(*self.between(0, 3))
-        self.assertIn("which may come", self.of("inspector"))
-        self.press_in("inspector", "Remove")
-        self.assertEqual(len(self.lines()), 1)
-        self.is_as_program()
-
-    def test_numbers_that_an_input_may_have(self) -> None:
-        self.write("ceiling 60;\ninput temp: int 0..60;\nmain = (maxHoodLoc(nbr{sense temp}, 0), 25 < sense temp);\n")
-        self.browser.click(*self.place(9))
-        self.press_in("inspector", "temp may change")
-        self.assertEqual(self.lines(), ["set 9 temp any"])
-        for end, number in (("least", "20"), ("greatest", "26")):
-            self.browser.click_on(f"[aria-label='{end} temp of device 9']")
-            self.browser.value("document.activeElement.select()")
-            self.browser.type(number)
-            self.browser.press("Tab")
-            self.settled()
-        self.assertEqual(self.lines(), ["set 9 temp 20..26"])
-        self.is_as_program()
-        self.browser.click_on("input[value=bounds] + span")
-        self.assertEqual(self.numbers()[9], "(0,any)")
-
-    def test_networks_whose_bounds_are_known(self) -> None:
-        """Bounds that were worked out apart from fc."""
-        for case in (*bounds_of_fc.OTHERS, *bounds_of_fc.EXAMPLES.values()):
-            if case.from_table:
-                continue
-            self.read("input.txt", "%%\n".join((case.program, case.network, case.changes)))
-            self.settled()
-            if case.changes:
-                self.has_bounds(case.written)
-                self.is_as_program()
-
-    def test_buttons_for_all(self) -> None:
-        self.browser.click_on("#changing summary")
-        for text in ("any link may go", "any device may leave", "src may change at any device"):
-            self.press_in("changing", text)
-        self.assertEqual(self.lines(), ["unlink *", "leave *", "set * src any"])
-        self.is_as_program()
-        self.browser.click(*self.place(3))
-        self.assertTrue(self.browser.value("document.querySelector('#inspector .toggle').disabled"))
-        self.press_in("changing", "any device may leave")
-        self.assertEqual(self.lines(), ["unlink *", "set * src any"])
-        self.is_as_program()
-
-    def test_a_wrong_line_is_marked(self) -> None:
-        rows = {
-            "leave 3\nunlink 3 99\n": (2, "99", "There is no device 99"),
-            "\nlave 3": (2, "lave3", "can't begin with lave"),
-            "set 3 src 5": (1, "5", "isn't of the input's type.*src is true or false"),
-            "set 3 heat any": (1, "heat", "declares no input heat.*declares src"),
-            "join 3 any": (1, "3", "is in the network already.*leave 3"),
-            "join 20": (1, "join20", "has a value for each input.*join 20 any"),
-            "join 20 7": (1, "7", "isn't of the input's type"),
-            "link 3 4 9": (1, "9", "outside of the metric.*All links weigh 1"),
-            "link 3 4 7..2": (1, "link347..2", "the wrong way round"),
-            "link 3 3 1": (1, "33", "linked to itself"),
-            "link 3 4": (1, "link34", "isn't complete.*link 3 5 1"),
-            "unlink 0 12": (1, "012", "aren't linked"),
-            "leave  3\nset src=true heat any": (2, "setsrc=trueheatany", "[nN]o input is called heat"),
-            "leave 70..80": (1, "leave70..80", "[nN]o device of the network is 70..80"),
-            "set src 3 any": (1, "setsrc3any", "[wW]rite set 3 src any"),
-            "poke 3 1": (1, "poke31", "can't begin with poke"),
-        }
-        for text, (line, marked, said) in rows.items():
-            with self.subTest(text):
-                self.write_lines(text)
-                self.assertRegex(self.of("changes-fault"), rf"^Line {line}: .*{said}")
-                marks = "[...document.querySelectorAll('#changes-shown mark')].map((one) => one.textContent)"
-                self.assertEqual("".join(self.browser.value(marks)).replace(" ", ""), marked)
-                self.assertEqual(self.browser.value("changes.getAttribute('aria-invalid')"), "true")
-                self.assertNotIn("bounds", self.of("brief"))
-        self.press_in("changes-fault", "Line 1")
-        chosen = self.browser.value("changes.value.slice(changes.selectionStart, changes.selectionEnd)")
-        self.assertEqual(chosen, "poke 3 1")
-        self.press_in("changes-fault", "Remove this line")
-        self.assertEqual(self.of("changes-fault"), "")
-        self.is_as_program()
-
-    def test_lines_for_one_device(self) -> None:
-        self.read("one.csv", "id,x,y\n0,1,1\n")
-        rows = {
-            "leave 0": "This is the only device", "join 1..1024 any": "more than 1,024 devices",
-            "join 1..200 any\nlinks 0 1": "[nN]o link of the network is 0",
-        }  # fmt: skip
-        for text, said in rows.items():
-            self.write_lines(text)
-            self.assertRegex(self.of("changes-fault"), said)
-        self.write_lines("join 1..200 any\n" + "".join(f"link 0 {other} 1\n" for other in range(1, 130)))
-        self.assertIn("more than 128 links", self.of("changes-fault"))
-
-    def test_lines_go_with_what_they_name(self) -> None:
-        self.write_lines("leave 3\nunlink 3 8\nunlink 0 5\nset 3 src any\nlink 3 9 1\n")
-        self.tool("remove")
-        self.browser.click(*self.place(3))
-        self.settled()
-        self.assertEqual(self.lines(), ["unlink 0 5"])
-        self.browser.click(*self.between(0, 5))
-        self.settled()
-        self.assertEqual(self.lines(), [])
-        self.is_as_program()
-        for count in (1, 5):
-            self.browser.click_on("#undo")
-            self.settled()
-            self.assertEqual(len(self.lines()), count)
-            self.is_as_program()
-
-    def test_a_run_is_of_the_network_as_it_stands(self) -> None:
-        self.write_lines("leave 3\njoin 20 any\nlink 20 3 1\nunlink 9\n")
-        self.assertEqual(len(self.numbers()), 15)
-        self.browser.click_on("#run")
-        self.browser.until("document.getElementById('round').max === '11'")
-        self.assertEqual(len(self.numbers()), 14)
-        self.assertEqual(self.browser.value("document.querySelectorAll('.away').length"), 0)
-        self.assertEqual(self.browser.value("document.querySelector('.may-go').getAttribute('d')"), "")
-        self.browser.click_on("#end-run")
-        self.is_as_program()
-
-    def test_the_address_has_the_lines(self) -> None:
-        self.write_lines("leave 3\nset src=false src any\n")
-        self.browser.click_on("input[value=within] + span")
-        seen = self.numbers()
-        self.browser.click_on("#share")
-        self.browser.until("document.getElementById('share').textContent !== 'Copy link'")
-        self.open(str(self.browser.value("location.hash")))
-        self.assertEqual(self.lines(), ["leave 3", "set src=false src any"])
-        self.assertEqual(self.numbers(), seen)
-        self.is_as_program()
-
-    def test_patterns_are_those_of_fieldc(self) -> None:
-        rows = [
-            "leave *", "leave 3..9", "leave temp=20", "leave src=false", "set 0..1 src any", "set * temp +-2",
-            "set 3 temp 2..7", "set 0 temp +-0", "set src=true temp +-60", "link 0..2 1..3 4", "link 0 2..3 any",
-            "link 2 1 +-2", "links * +-1", "links 1 any", "links 0 2..7", "unlink *", "unlink 3", "unlink temp=20 *",
-            "unlink 1 0", "join 7..9 any 2..4", "join 7 true 3", "leave", "set 0 temp", "link 0 1", "unlink 1 2 3",
-            "poke 0 1", "set 9 x 2", "",
-        ]  # fmt: skip
-        scene, wanted = test_changes.NETWORK, network.declared(test_changes.PROGRAM)
-        links = [list(link) for link in scene.links]
-        devices = [{"id": device, "x": 0, "y": 0, "inputs": inputs} for device, inputs in scene.inputs.items()]
-        given = {"program": test_changes.PROGRAM, "network": {"devices": devices, "links": links}, "rows": rows}
-        file = self.folder / "patterns.json"
-        file.write_text(json.dumps(given))
-        words = ["node", *map(str, (HERE / "page_changes.mjs", page.FOLDER, file))]
-        done = subprocess.run(words, capture_output=True, text=True, check=True)
-        found: list[list[str]] = json.loads(done.stdout)
-        for row, lines in zip(rows, found, strict=True):
-            plain = Section("changes", "may.txt", 1, row)
-            self.assertEqual(lines, written_out(plain, replace(scene, names={}), wanted).text.split("\n"), row)
-
-    def test_any_link_of_the_largest_network(self) -> None:
-        start = time.monotonic()
-        fixed_work()
-        busy = max(1.0, time.monotonic() - start)
-        self.write(FAR_HOPS)
-        self.browser.value("document.getElementById('making').open = true")
-        self.browser.value("document.getElementById('count').select()")
-        self.browser.type("1024")
-        self.browser.click_on("#make button")
-        self.settled()
-        self.browser.value(GAPS)
-        start = time.monotonic()
-        self.write_lines("unlink *\n")
-        self.browser.until("document.querySelector('.may-go').getAttribute('d') !== ''")
-        self.settled()
-        took = time.monotonic() - start
-        self.assertLess(took, SECONDS * busy, f"{took:.1f} s, and {busy:.1f} s for the fixed work")
-        gap = self.browser.value("gap")
-        self.assertLess(gap, STILL * busy, f"{gap:.0f} ms, and {busy:.1f} s for the fixed work")
-        self.is_as_program()
-
-
-class Access(Opened):
-    def test_the_picture_of_the_readme(self) -> None:
-        """`PICTURES` in the environment draws it again."""
-        self.browser.screen(1360, 800)
-        self.open()
-        self.browser.click_on("#paths")
-        self.browser.click(*self.place(12))
-        self.browser.value("scrollTo(0, 0)")
-        picture = self.folder / "page.png"
-        self.browser.picture(picture)
-        self.assertGreater(picture.stat().st_size, 20_000)
-        if "PICTURES" in os.environ:
-            (TOP / "docs/pictures/page.png").write_bytes(picture.read_bytes())
-        self.assertTrue((TOP / "docs/pictures/page.png").exists())
-
-    def test_everything_has_a_name(self) -> None:
-        self.browser.value("document.querySelectorAll('details').forEach((one) => { one.open = true; })")
-        self.browser.click(*self.place(3))
-        roles = {"button", "checkbox", "combobox", "textbox", "slider", "spinbutton", "radio", "application", "region"}
-        nodes = self.browser.call("Accessibility.getFullAXTree")["nodes"]
-        nodes = [node for node in nodes if not node.get("ignored") and node["role"]["value"] in roles]
-        unnamed = [node["role"] for node in nodes if not node.get("name", {}).get("value")]
-        self.assertEqual(unnamed, [])
-        self.assertGreater(len(nodes), 40)
-
-    def test_every_control_is_reached_by_the_tab_key(self) -> None:
-        self.browser.value("document.activeElement?.blur()")
-        reached = set()
-        for _ in range(60):
-            self.browser.press("Tab")
-            reached.add(self.browser.value("document.activeElement?.id || document.activeElement?.name"))
-        wanted = "program drawing example block insert tool range run paths share colours theme"
-        self.assertLessEqual(set(wanted.split(" ")), reached)
-
-    def test_colours_of_texts(self) -> None:
-        """Texts and what they stand on differ by 4.5 to 1 at least, in both looks."""
-        style = (page.FOLDER / "style.css").read_text()
-        for block in re.findall(r":root[^{]*\{(.*?)\}", style, re.DOTALL):
-            colours = dict(re.findall(r"--([\w-]+): (#[0-9a-f]{6})", block))
-            inks = ("ink", "soft", "word", "number", "comment", "accent", "fault")
-            pairs = [(ink, paper) for ink in inks for paper in ("paper", "panel")]
-            for ink, paper in [*pairs, ("accent-ink", "accent"), ("ink", "fault-paper")]:
-                self.assertGreaterEqual(contrast(colours[ink], colours[paper]), 4.5, (ink, paper))
-
-    def test_a_phone(self) -> None:
-        self.browser.screen(390, 844, 2, is_phone=True)
-        self.open()
-        self.assertLessEqual(self.browser.value("document.scrollingElement.scrollWidth"), 390)
-        for value in ("add", "switch"):
-            x, y = self.browser.middle(f"input[value={value}] + span")
-            self.browser.tap(x, y)
-            self.browser.until(f"document.querySelector('input[value={value}]').checked")
-            self.browser.tap(*(self.free(0.9, 0.9) if value == "add" else self.place(14)))
-            self.browser.until("document.querySelectorAll('.device').length === 15")
-        self.settled()
-        self.browser.until("document.querySelector('.device[data-id=\"14\"] .value').textContent === '0'")
-
-    def test_a_run_on_a_phone(self) -> None:
-        """The drawing and the slider are both in the window."""
-        self.browser.screen(390, 844, 2, is_phone=True)
-        self.open()
-        self.browser.tap(*self.browser.middle("#run"))
-        self.browser.until("document.getElementById('round').max === '11'")
-        (_, top, _, height), (_, slider, _, rest) = self.browser.box("#drawing"), self.browser.box("#sliding")
-        self.assertGreater(top, 0)
-        self.assertLessEqual(top + height, slider)
-        self.assertLessEqual(slider + rest, 844)
-        self.browser.tap(*self.browser.where("#play"))
-        self.browser.until("document.getElementById('round').value === '2'")
-
-    def test_dark_and_light(self) -> None:
-        for is_dark, wanted in ((True, "dark"), (False, "light")):
-            self.browser.dark(is_dark)
-            self.open()
-            self.assertEqual(self.browser.value("document.documentElement.dataset.look"), wanted)
-        self.choose("theme", "dark")
-        self.assertEqual(self.browser.value("document.documentElement.dataset.look"), "dark")
-
-
-class Sources(unittest.TestCase):
-    def test_types(self) -> None:
-        """The page's scripts have the types that they say."""
-        done = subprocess.run(["tsc", "-p", page.FOLDER / "tsconfig.json"], capture_output=True, text=True, check=False)
-        self.assertEqual((done.returncode, done.stdout), (0, ""))
-
-    def test_lines(self) -> None:
-        for file in sorted(page.FOLDER.glob("*.mjs")):
-            rows = file.read_text().split("\n")
-            self.assertLess(len(rows), MOST_LINES, file.name)
-            self.assertEqual([row for row in rows if len(row) > 120], [], file.name)
-
-    def test_a_page_is_the_same_each_time(self) -> None:
-        bytes_of_a_module = b"\0asm\1\0\0\0"
-        self.assertEqual(page.text(bytes_of_a_module), page.text(bytes_of_a_module))
-
-
-def contrast(one: str, other: str) -> float:
-    """How much two colours differ in lightness, as 1 to 21."""
-
-    def lightness(colour: str) -> float:
-        parts = [int(colour[at : at + 2], 16) / 255 for at in (1, 3, 5)]
-        linear = [part / 12.92 if part <= 0.04045 else float(((part + 0.055) / 1.055) ** 2.4) for part in parts]
-        return 0.2126 * linear[0] + 0.7152 * linear[1] + 0.0722 * linear[2] + 0.05
-
-    light, dark = sorted((lightness(one), lightness(other)), reverse=True)
-    return light / dark
 
 
 if __name__ == "__main__":
