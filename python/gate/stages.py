@@ -5,6 +5,7 @@ from __future__ import annotations
 import os
 import re
 import subprocess
+import time
 from collections.abc import Callable, Iterable
 from concurrent.futures import ThreadPoolExecutor
 from dataclasses import dataclass
@@ -155,11 +156,12 @@ def tests(fc: Path, names: list[str]) -> Counts:
 
 def test(fc: Path, name: str) -> Counts:
     """Runs a module, class or test in a process of its own."""
+    start = time.monotonic()
     done = subprocess.run(
         [PYTHON, "-B", TESTS / "all.py", name], env=dict(os.environ, FC=str(fc)), stdin=subprocess.DEVNULL,
         stdout=subprocess.PIPE, stderr=subprocess.STDOUT, text=True, errors="replace", check=False,
     )  # fmt: skip
     counts = counted(done.stdout)
     shown = done.stdout if counts.failed or done.returncode else "".join(done.stdout.splitlines(keepends=True)[-1:])
-    print(f"== {name}\n{shown}", end="", flush=True)
+    print(f"== {name}, {time.monotonic() - start:.0f} s\n{shown}", end="", flush=True)
     return counts if counts.failed or not done.returncode else counts + Counts(0, 1)
