@@ -39,13 +39,14 @@ def place_of(explanation: Explanation) -> str:
 
 
 def quoted(explanation: Explanation) -> list[str]:
-    """The line of the file that is meant, and below it a caret at the place; None if they aren't known."""
+    """The line of the file that is meant, and below it a caret at the place; nothing if they aren't known, or if nothing
+    stands there."""
     section, line = explanation.section, explanation.line
     if section is None or line is None:
         return []
     rows = section.text.split("\n")
     place = line - section.first_line
-    if not 0 <= place < len(rows):
+    if not 0 <= place < len(rows) or not rows[place].strip():
         return []
     row, column = rows[place].rstrip("\r"), explanation.column
     if column is None:

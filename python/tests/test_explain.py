@@ -71,8 +71,11 @@ class Tables(unittest.TestCase):
                     continue
                 kind, line, column = case.at
                 self.assertEqual(place_of(found), f"{kind}.txt:{line}:{column}: ")
-                shown, under = quoted(found)
                 text = found.section.text.split("\n")[line - 1]
+                if not text.strip():
+                    self.assertEqual(quoted(found), [])
+                    continue
+                shown, under = quoted(found)
                 self.assertEqual(shown[len(under) - 1 :][:1], text[column - 1 : column])
 
     @needs_fc
