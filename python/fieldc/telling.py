@@ -39,8 +39,8 @@ def place_of(explanation: Explanation) -> str:
 
 
 def quoted(explanation: Explanation) -> list[str]:
-    """The line of the file that is meant, and below it a caret at the place; nothing if they aren't known, or if nothing
-    stands there."""
+    """The line of the file that is meant, and below it a caret at the place; nothing if they aren't known, or the line
+    is empty."""
     section, line = explanation.section, explanation.line
     if section is None or line is None:
         return []
