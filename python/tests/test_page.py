@@ -383,8 +383,8 @@ class Network(Opened):
             self.assertEqual(self.count(), (14, 25))
 
     def test_the_largest_network(self) -> None:
-        self.write(FAR_HOPS)
         with self.in_time():
+            self.write(FAR_HOPS)
             self.make_largest()
             self.browser.until("document.querySelectorAll('.device').length === 1024")
             self.browser.until(
