@@ -154,6 +154,15 @@ def tests(fc: Path, names: list[str]) -> Counts:
         return sum(pool.map(lambda name: test(fc, name), names), Counts())
 
 
+def tests_with_library(fc: Path) -> Counts:
+    """Runs all modules of tests. The library, which takes one processor, is built beside those that don't want it."""
+    with ThreadPoolExecutor(1) as pool:
+        built = pool.submit(built_library)
+        counts = tests(fc, [name for name in modules() if name not in OF_LIBRARY])
+        counts += built.result()
+    return counts + tests(fc, [name for name in modules() if name in OF_LIBRARY])
+
+
 def test(fc: Path, name: str) -> Counts:
     """Runs a module, class or test in a process of its own."""
     start = time.monotonic()

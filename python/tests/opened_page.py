@@ -172,15 +172,17 @@ class Opened(unittest.TestCase):
 
     def input(self) -> str:
         """The program, the network and what may change as an input of fc, as the page saves it."""
-        (self.folder / "input.txt").unlink(missing_ok=True)
+        saved = self.folder / "input.txt"
+        saved.unlink(missing_ok=True)
         self.browser.call("Page.setDownloadBehavior", behavior="allow", downloadPath=str(self.folder))
         self.browser.value("document.getElementById('making').open = true")
         self.browser.click_on("#save-input")
         for _ in range(200):
-            if (self.folder / "input.txt").exists():
+            # the browser makes an empty file first, and then puts the whole one in its place
+            if saved.exists() and saved.stat().st_size:
                 break
             self.browser.value("new Promise((done) => setTimeout(done, 20))")
-        return (self.folder / "input.txt").read_text()
+        return saved.read_text()
 
     def is_as_program(self) -> None:
         """The numbers on the devices, the verdict and the settle rounds are the program's, and the bounds, if there are

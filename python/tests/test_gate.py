@@ -6,6 +6,7 @@ import importlib.util
 import stat
 import sys
 import tempfile
+import threading
 import unittest
 from pathlib import Path
 from types import ModuleType
@@ -231,6 +232,25 @@ class Stages(unittest.TestCase):
     def test_what_a_tool_counted(self) -> None:
         self.assertEqual(stages.counted("1 passed, 2 failed\nx\n30 passed, 4 failed\n"), Counts(30, 4))
         self.assertEqual(stages.counted("Traceback\n"), Counts(0, 1))
+
+    def test_the_library_is_built_beside_tests_and_before_those_that_want_it(self) -> None:
+        begun = threading.Event()
+        done: list[str] = []
+
+        def built() -> Counts:
+            self.assertTrue(begun.wait(10), "no test begins beside the library")
+            done.append("library")
+            return Counts(2, 0)
+
+        def tests(_: Path, names: list[str]) -> Counts:
+            begun.set()
+            done.extend(names)
+            return Counts(len(names), 0)
+
+        with mock.patch.multiple(stages, built_library=built, tests=tests, modules=lambda: ["test_page", "test_cuts"]):
+            self.assertEqual(stages.tests_with_library(Path("fc")), Counts(4, 0))
+        self.assertEqual(sorted(done[:2]), ["library", "test_cuts"])
+        self.assertEqual(done[2:], ["test_page"])
 
     def test_missing_packages_are_named(self) -> None:
         self.assertIn("python3-lark", packages.wanted())
